@@ -1,0 +1,4 @@
+pub mod Lists
+pub mod RowLaws
+pub mod ClassLaws
+pub mod SelectLaws

@@ -1,0 +1,279 @@
+-- The rule of the rows, shown a single time over table and subband; the sums of nbal; and that the place of a row's steps and the steps at
+-- a row's place are each other's inverse.
+use mathlib.Core.Path.{_≡_, refl, sym, ap, _∙_, subst}
+use mathlib.Core.Bool.{Bool, true, false, cond, _&&_, and-false}
+use mathlib.Core.List.{List, [], _∷_}
+use mathlib.Core.Option.{none, some, Option·none-ne-some, Option·some-injective}
+use Prim.Native.Nat.{ℕ, zero, suc, _*_, _%_, _^_, _≤_, _<_}
+use native.Mathlib.Nat.{lt-of-lt-of-le, lt-of-le-of-lt, lt-trans, le-trans, not-suc-le-zero, one-mul, mod-eq-of-lt}
+use native.Mathlib.Decide.{decLt}
+use native.Mathlib.Omega.{arith}
+use borrow.Author.Tests.{le-ltb, lt-leb, eq-eqb, ne-eqb, eqb-true}
+use lib.Pow.{pow-mono}
+use lib.Dec.{T, leb, ltb, eqb, ltb→lt, leb→le, eqb→eq, lit<, lit≤}
+use lib.ListN.{length, getD}
+use Rattle.bitalloc.proofs.Lists.{tabulated, padded}
+use Rattle.bitalloc.specs.Storage.{pad, kept}
+use Rattle.tables.specs.Search.{entryAt}
+use Rattle.tables.proofs.Rule.{first, second, allBelow, below, all, all-at, ordered, ordered-at}
+use Rattle.tables.proofs.Search.{there, past, place-found, place-missing, at-place, none-passes}
+use Rattle.bitalloc.specs.declared.BitAllocTable.{BitAllocTable}
+use Rattle.bitalloc.specs.declared.BitAllocTable.the-variants.{B2a, B2b, B2c, B2d, B1Lsf}
+use Rattle.bitalloc.specs.declared.OptionU32.the-variants.{Some, None}
+use Rattle.bitalloc.specs.Options.{numberIn}
+use Rattle.bitalloc.specs.Tables.{Range, RowRule, NbalIs, StepsAre, IndexIs, ranges, rangeOf, holds, widthIn, placesIn, nbalOf, rowOf, sblimitOf, nbalSum, sumBelow, stepsAt, indexOf}
+
+-- ---- the rule
+
+-- the rule as one test
+ruled : ℕ → List ℕ → Bool
+ruled nbal row =
+    leb 2 nbal && (leb nbal 4 && (eqb (length row) (2 ^ nbal)
+    && (eqb (getD row 0 1) 0 && (ordered ltb row && all (λ n. leb n 65535) row))))
+
+computed : (t : BitAllocTable) → T (allBelow (sblimitOf t) (λ sb. ruled (nbalOf t sb) (rowOf t sb)))
+unfolding ruled nbalOf rowOf ranges
+computed B2a = tt
+computed B2b = tt
+computed B2c = tt
+computed B2d = tt
+computed B1Lsf = tt
+
+rule-of : (nbal : ℕ) (row : List ℕ) → T (ruled nbal row) → RowRule nbal row
+unfolding ruled
+rule-of nbal row t =
+    let t₁ = second (leb 2 nbal) _ t in
+    let t₂ = second (leb nbal 4) _ t₁ in
+    let t₃ = second (eqb (length row) (2 ^ nbal)) _ t₂ in
+    let t₄ = second (eqb (getD row 0 1) 0) _ t₃ in
+    record {
+      least = leb→le _ _ (first (leb 2 nbal) _ t);
+      most = leb→le _ _ (first (leb nbal 4) _ t₁);
+      places = eqb→eq _ _ (first (eqb (length row) (2 ^ nbal)) _ t₂);
+      zeroth = eqb→eq _ _ (first (eqb (getD row 0 1) 0) _ t₃);
+      rising = λ i j l h. ltb→lt _ _ (ordered-at ltb row 0 (first (ordered ltb row) _ t₄) i j l h);
+      topped = λ i. leb→le _ _ (all-at (λ n. leb n 65535) row 0 tt (second (ordered ltb row) _ t₄) i)
+    }
+
+-- every row below sblimit keeps the rule
+pub row-rule : (t : BitAllocTable) (sb : ℕ) → sb < sblimitOf t → RowRule (nbalOf t sb) (rowOf t sb)
+row-rule t sb h = rule-of (nbalOf t sb) (rowOf t sb) (below (sblimitOf t) (λ sb. ruled (nbalOf t sb) (rowOf t sb)) (computed t) sb h)
+
+-- ---- outside the table
+
+endsBelow : ℕ → Range → Bool
+endsBelow n g = ltb (g .last) n
+
+ends : (t : BitAllocTable) → T (all (endsBelow (sblimitOf t)) (ranges t))
+unfolding endsBelow ranges
+ends B2a = tt
+ends B2b = tt
+ends B2c = tt
+ends B2d = tt
+ends B1Lsf = tt
+
+no-range : (t : BitAllocTable) (sb : ℕ) → sblimitOf t ≤ sb → rangeOf t sb ≡ none
+unfolding rangeOf endsBelow
+no-range t sb h =
+    ap (entryAt (ranges t))
+    (none-passes (holds sb) (endsBelow (sblimitOf t)) (ranges t) (ends t)
+    (λ g l. rw (lt-leb sb (g .last) (lt-of-lt-of-le (ltb→lt (g .last) (sblimitOf t) l) h)) (and-false (leb (g .first) sb))))
+
+pub no-row : (t : BitAllocTable) (sb : ℕ) → sblimitOf t ≤ sb → rowOf t sb ≡ []
+unfolding rowOf
+no-row t sb h = ap placesIn (no-range t sb h)
+
+pub no-field : (t : BitAllocTable) (sb : ℕ) → sblimitOf t ≤ sb → nbalOf t sb ≡ 0
+unfolding nbalOf
+no-field t sb h = ap widthIn (no-range t sb h)
+
+-- ---- every subband, carried or not
+
+pub sblimit-small : (t : BitAllocTable) → sblimitOf t ≤ 30
+sblimit-small B2a = lit≤ tt
+sblimit-small B2b = lit≤ tt
+sblimit-small B2c = lit≤ tt
+sblimit-small B2d = lit≤ tt
+sblimit-small B1Lsf = lit≤ tt
+
+-- what holds of each row under the rule, and of no row, holds at every subband
+module _ (P : ℕ → List ℕ → Type 0) (kept : (n : ℕ) (row : List ℕ) → RowRule n row → P n row) (no-place : P 0 []) (t : BitAllocTable) (sb : ℕ) where
+  everywhere : P (nbalOf t sb) (rowOf t sb)
+  everywhere = go (decLt sb (sblimitOf t))
+    where
+      go : Dec (sb < sblimitOf t) → P (nbalOf t sb) (rowOf t sb)
+      go (yes h) = kept _ _ (row-rule t sb h)
+      go (no h) =
+          let l : sblimitOf t ≤ sb = omega arith in
+          rw (no-field t sb l, no-row t sb l) no-place
+
+pub nbal-small : (t : BitAllocTable) (sb : ℕ) → nbalOf t sb ≤ 4
+nbal-small = everywhere (λ n row. n ≤ 4) (λ n row r. r .most) (lit≤ tt)
+
+-- how many places a row has: none without a field
+abbrev pub placesFor : ℕ → ℕ
+placesFor n = cond (eqb n 0) 0 (2 ^ n)
+
+pub row-places : (t : BitAllocTable) (sb : ℕ) → length (rowOf t sb) ≡ placesFor (nbalOf t sb)
+row-places =
+    everywhere (λ n row. length row ≡ placesFor n)
+    (λ n row r. rw (ne-eqb n 0 (λ e. let l = r .least in omega arith)) (r .places)) refl
+
+-- the two ways in which the code finds that number
+pub no-places : (t : BitAllocTable) (sb n : ℕ) → NbalIs t sb n → n ≡ 0 → 0 ≡ length (rowOf t sb)
+no-places t sb n p z = sym (row-places t sb ∙ rw (eq-eqb (nbalOf t sb) 0 (sym (p .whole) ∙ z)))
+
+pub some-places : (t : BitAllocTable) (sb n : ℕ) → NbalIs t sb n → (n ≡ 0 → ⊥) → (1 * 2 ^ n) % 2 ^ 64 ≡ length (rowOf t sb)
+some-places t sb n p nz =
+    mod-eq-of-lt (rw one-mul (lt-of-le-of-lt (pow-mono (p .small)) (lit< tt)))
+    ∙ one-mul (2 ^ n) ∙ ap (λ (n : ℕ). 2 ^ n) (p .whole)
+    ∙ sym (row-places t sb ∙ rw (ne-eqb (nbalOf t sb) 0 (λ z. nz (p .whole ∙ z))))
+
+pub places-small : (t : BitAllocTable) (sb : ℕ) → length (rowOf t sb) ≤ 16
+places-small = everywhere (λ n row. length row ≤ 16) (λ n row r. rw (r .places) (pow-mono (r .most))) (lit≤ tt)
+
+pub steps-small : (t : BitAllocTable) (sb i : ℕ) → getD (rowOf t sb) i 0 ≤ 65535
+steps-small t sb i = everywhere (λ n row. getD row i 0 ≤ 65535) (λ n row r. r .topped i) (lit≤ tt) t sb
+
+-- ---- the rows as they are kept
+
+pub kept-row : (t : BitAllocTable) (sb : ℕ) (rows : List (List ℕ)) → rows ≡ kept t → sb < 32 → getD rows sb [] ≡ pad 16 (rowOf t sb)
+unfolding kept
+kept-row t sb rows e h = ap (λ (rows : List (List ℕ)). getD rows sb []) e ∙ tabulated 32 (λ sb. pad 16 (rowOf t sb)) sb [] h
+
+pub row-past : (t : BitAllocTable) (sb : ℕ) → 32 ≤ sb → pad 16 [] ≡ pad 16 (rowOf t sb)
+row-past t sb h = ap (pad 16) (sym (no-row t sb (le-trans (sblimit-small t) (le-trans (lit≤ tt) h))))
+
+-- what the code reads at a place of a row
+pub kept-steps : (t : BitAllocTable) (sb i : ℕ) (row : List ℕ) → row ≡ pad 16 (rowOf t sb) → i < length (rowOf t sb)
+  → getD row i 0 ≡ getD (rowOf t sb) i 0
+kept-steps t sb i row e h =
+    ap (λ (row : List ℕ). getD row i 0) e ∙ padded 16 (rowOf t sb) i (lt-of-lt-of-le h (places-small t sb))
+
+-- ---- the steps at a place, and the place of steps
+
+held : {m n : ℕ} → Some m ≡ Some n → m ≡ n
+held e = cc
+
+pub steps-there : (t : BitAllocTable) (sb i places : ℕ) (row : List ℕ) → row ≡ pad 16 (rowOf t sb) → places ≡ length (rowOf t sb) → i < places
+  → StepsAre t sb i (Some (getD row i 0))
+unfolding stepsAt
+steps-there t sb i places row e p h =
+    let l : i < length (rowOf t sb) = subst (λ (n : ℕ). i < n) p h in
+    let v = kept-steps t sb i row e l in
+    record {
+      whole = ap some v ∙ sym (there (rowOf t sb) i 0 l);
+      below = λ n q. (lt-of-lt-of-le l (places-small t sb), subst (λ (n : ℕ). n ≤ 65535) (sym v ∙ held q) (steps-small t sb i))
+    }
+
+pub steps-past : (t : BitAllocTable) (sb i places : ℕ) → places ≡ length (rowOf t sb) → places ≤ i → StepsAre t sb i None
+unfolding stepsAt
+steps-past t sb i places p h = record {
+  whole = sym (past (rowOf t sb) i (subst (λ (n : ℕ). n ≤ i) p h));
+  below = λ n q. absurd (Option·none-ne-some n (ap numberIn q))
+}
+
+pub index-found : (t : BitAllocTable) (sb steps i places : ℕ) (row : List ℕ) → row ≡ pad 16 (rowOf t sb) → places ≡ length (rowOf t sb)
+  → i < places → ((k : ℕ) → k < i → getD row k 0 ≡ steps → ⊥) → getD row i 0 ≡ steps → IndexIs t sb steps (Some i)
+unfolding indexOf
+index-found t sb steps i places row e p h b q =
+    let l : i < length (rowOf t sb) = subst (λ (n : ℕ). i < n) p h in
+    record {
+      whole =
+          sym (place-found (λ n. eqb n steps) (rowOf t sb) i 0 l
+          (λ k m. ne-eqb _ _ (λ r. b k m (kept-steps t sb k row e (lt-trans m l) ∙ r)))
+          (eq-eqb _ _ (sym (kept-steps t sb i row e l) ∙ q)));
+      below = λ j r. subst (λ (n : ℕ). n < 16) (held r) (lt-of-lt-of-le l (places-small t sb))
+    }
+
+pub index-missing : (t : BitAllocTable) (sb steps places : ℕ) (row : List ℕ) → row ≡ pad 16 (rowOf t sb) → places ≡ length (rowOf t sb)
+  → ((k : ℕ) → k < places → getD row k 0 ≡ steps → ⊥) → IndexIs t sb steps None
+unfolding indexOf
+index-missing t sb steps places row e p b = record {
+  whole =
+      sym (place-missing (λ n. eqb n steps) (rowOf t sb) 0
+      (λ k l. ne-eqb _ _ (λ r. b k (subst (λ (n : ℕ). k < n) (sym p) l) (kept-steps t sb k row e l ∙ r))));
+  below = λ j r. absurd (Option·none-ne-some j (ap numberIn r))
+}
+
+-- ---- nbal by the subbands at which it falls: below the first 4 bits, below the second 3, below sblimit 2
+
+abbrev pub widthBy : ℕ → ℕ → ℕ → ℕ → ℕ
+widthBy sb four three two = cond (ltb sb four) 4 (cond (ltb sb three) 3 (cond (ltb sb two) 2 0))
+
+abbrev pub four : BitAllocTable → ℕ
+four B2a = 11
+four B2b = 11
+four B2c = 2
+four B2d = 2
+four B1Lsf = 4
+
+abbrev pub three : BitAllocTable → ℕ
+three B2a = 23
+three B2b = 23
+three B2c = 8
+three B2d = 12
+three B1Lsf = 11
+
+byFalls : BitAllocTable → ℕ → ℕ
+byFalls t sb = widthBy sb (four t) (three t) (sblimitOf t)
+
+computed-falls : (t : BitAllocTable)
+  → T (leb (four t) (sblimitOf t) && (leb (three t) (sblimitOf t) && allBelow (sblimitOf t) (λ sb. eqb (byFalls t sb) (nbalOf t sb))))
+unfolding byFalls nbalOf ranges
+computed-falls B2a = tt
+computed-falls B2b = tt
+computed-falls B2c = tt
+computed-falls B2d = tt
+computed-falls B1Lsf = tt
+
+pub nbal-by-falls : (t : BitAllocTable) (sb : ℕ) → widthBy sb (four t) (three t) (sblimitOf t) ≡ nbalOf t sb
+unfolding byFalls
+nbal-by-falls t sb = go (decLt sb (sblimitOf t))
+  where
+    t₀ : T (leb (three t) (sblimitOf t) && allBelow (sblimitOf t) (λ sb. eqb (byFalls t sb) (nbalOf t sb)))
+    t₀ = second (leb (four t) (sblimitOf t)) _ (computed-falls t)
+    go : Dec (sb < sblimitOf t) → byFalls t sb ≡ nbalOf t sb
+    go (yes h) = eqb→eq _ _ (below (sblimitOf t) (λ sb. eqb (byFalls t sb) (nbalOf t sb)) (second (leb (three t) (sblimitOf t)) _ t₀) sb h)
+    go (no h) =
+        let l : sblimitOf t ≤ sb = omega arith in
+        let a : four t ≤ sb = le-trans (leb→le _ _ (first (leb (four t) (sblimitOf t)) _ (computed-falls t))) l in
+        let b : three t ≤ sb = le-trans (leb→le _ _ (first (leb (three t) (sblimitOf t)) _ t₀)) l in
+        rw (le-ltb sb (four t) a, le-ltb sb (three t) b, le-ltb sb (sblimitOf t) l) (sym (no-field t sb l))
+
+pub nbal-is : (s t : BitAllocTable) (sb r : ℕ) → s ≡ t → (r ≡ widthBy sb (four t) (three t) (sblimitOf t)) × (r ≤ 4) → NbalIs s sb r
+nbal-is s t sb r e p = record { whole = p .0 ∙ nbal-by-falls t sb ∙ ap (λ (t : BitAllocTable). nbalOf t sb) (sym e); small = p .1 }
+
+-- ---- the sums of nbal
+
+pub nbal-sums : (t : BitAllocTable) → sumBelow 32 (nbalOf t) ≡ nbalSum t
+unfolding nbalOf ranges
+nbal-sums B2a = refl
+nbal-sums B2b = refl
+nbal-sums B2c = refl
+nbal-sums B2d = refl
+nbal-sums B1Lsf = refl
+
+-- ---- steps and places are each other's inverse
+
+row-rises : (t : BitAllocTable) (sb i j : ℕ) → i < j → j < length (rowOf t sb) → getD (rowOf t sb) i 0 < getD (rowOf t sb) j 0
+row-rises =
+    everywhere (λ n row. (i j : ℕ) → i < j → j < length row → getD row i 0 < getD row j 0)
+    (λ n row r. r .rising) (λ i j l h. absurd (not-suc-le-zero h))
+
+pub index-of-steps : (t : BitAllocTable) (sb i n : ℕ) → stepsAt t sb i ≡ some n → indexOf t sb n ≡ some i
+unfolding stepsAt indexOf
+index-of-steps t sb i n e = go (decLt i (length (rowOf t sb)))
+  where
+    go : Dec (i < length (rowOf t sb)) → indexOf t sb n ≡ some i
+    go (yes h) =
+        let v : getD (rowOf t sb) i 0 ≡ n = Option·some-injective _ _ (sym (there (rowOf t sb) i 0 h) ∙ e) in
+        place-found (λ m. eqb m n) (rowOf t sb) i 0 h
+        (λ k l. ne-eqb (getD (rowOf t sb) k 0) n (λ q. let r = row-rises t sb k i l h in omega arith)) (eq-eqb _ _ v)
+    go (no h) = absurd (Option·none-ne-some n (sym (past (rowOf t sb) i (omega arith)) ∙ e))
+
+pub steps-of-index : (t : BitAllocTable) (sb i n : ℕ) → indexOf t sb n ≡ some i → stepsAt t sb i ≡ some n
+unfolding stepsAt indexOf
+steps-of-index t sb i n e =
+    let g = at-place (λ m. eqb m n) (rowOf t sb) i e in
+    g .1 ∙ ap some (eqb-true _ _ (g .2))

@@ -1,0 +1,5 @@
+pub mod Options
+pub mod Tables
+pub mod Storage
+pub mod Select
+pub mod Classes

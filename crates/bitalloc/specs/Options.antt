@@ -1,0 +1,23 @@
+-- What the code's enums of a value or nothing stand for: an Option of the value.
+use Prim.Native.Nat.{ℕ}
+use mathlib.Core.Option.{Option, none, some}
+use Rattle.bitalloc.specs.declared.OptionU32.{OptionU32}
+use Rattle.bitalloc.specs.declared.OptionU32.the-variants as U32
+use Rattle.bitalloc.specs.declared.BitAllocTable.{BitAllocTable}
+use Rattle.bitalloc.specs.declared.OptionTable.{OptionTable}
+use Rattle.bitalloc.specs.declared.OptionTable.the-variants as Table
+use Rattle.bitalloc.specs.declared.QuantClass.{QuantClass}
+use Rattle.bitalloc.specs.declared.OptionClass.{OptionClass}
+use Rattle.bitalloc.specs.declared.OptionClass.the-variants as Class
+
+abbrev pub numberIn : OptionU32 → Option ℕ
+numberIn (U32.Some n) = some n
+numberIn U32.None = none
+
+abbrev pub tableIn : OptionTable → Option BitAllocTable
+tableIn (Table.Some t) = some t
+tableIn Table.None = none
+
+abbrev pub classIn : OptionClass → Option QuantClass
+classIn (Class.Some q) = some q
+classIn Class.None = none

@@ -1,0 +1,77 @@
+-- The frame header of ISO/IEC 11172-3: channels and bound (2.4.2.3), and the size of the frame (2.4.3.1).
+use Prim.Native.Nat.{ℕ, _+_, _*_, _/_, _≤_}
+use mathlib.Core.Bool.{Bool, true, false, not, cond}
+use mathlib.Core.List.{[], _∷_}
+use mathlib.Core.Path.{_≡_}
+use lib.Dec.{eqb}
+use Rattle.header.specs.declared.Mode.{Mode}
+use Rattle.header.specs.declared.Mode.the-variants.{Stereo, JointStereo, DualChannel, SingleChannel}
+use Rattle.header.specs.declared.ModeExtension.{ModeExtension}
+use Rattle.header.specs.declared.ModeExtension.the-variants.{Bound4, Bound8, Bound12, Bound16}
+use Rattle.header.specs.declared.FrameHeader.{FrameHeader}
+use Rattle.header.specs.declared.FrameSize.{FrameSize}
+use Rattle.header.specs.declared.FrameSize.the-variants.{Bytes, ZeroSampleRate}
+use Rattle.header.specs.Questions.{Question, number}
+
+-- single_channel has one channel, every other mode two
+abbrev pub channelsOf : Mode → ℕ
+channelsOf Stereo = 2
+channelsOf JointStereo = 2
+channelsOf DualChannel = 2
+channelsOf SingleChannel = 1
+
+-- mode_extension: the subbands from 4, 8, 12 or 16 on are in intensity stereo
+abbrev pub boundOf : ModeExtension → ℕ
+boundOf Bound4 = 4
+boundOf Bound8 = 8
+boundOf Bound12 = 12
+boundOf Bound16 = 16
+
+-- free format: no bit rate is named
+abbrev pub freeFormat : FrameHeader → Bool
+freeFormat h = eqb (h .«bit_rate») 0
+
+-- The frame's slots, of one byte each in Layer II: N = 144 * bit rate / sampling frequency, truncated, and one more with padding
+abbrev pub slots : FrameHeader → ℕ
+slots h = 144 * h .«bit_rate» / h .«sample_rate» + cond (h .padding) 1 0
+
+-- ---- the answer of `frame_size_bytes`
+
+-- an answer's number, and the frame's bytes, which are 0 where the number is not
+pub record Size : Type 0 where
+  pub answer : ℕ
+  pub bytes : ℕ
+
+-- what each case of the enum stands for
+abbrev pub sizeOf : FrameSize → Size
+sizeOf (Bytes n) = record { answer = 0; bytes = n }
+sizeOf ZeroSampleRate = record { answer = 2; bytes = 0 }
+
+-- question 2: the sample rate is not 0
+abbrev pub sampleRateAsked : FrameHeader → Question
+sampleRateAsked h = record { yes = not (eqb (h .«sample_rate») 0); otherwise = 2 }
+
+-- the bytes under a number: those of an accepted frame, and 0 of a refused one
+abbrev pub whereAccepted : ℕ → ℕ → ℕ
+whereAccepted n x = cond (eqb n 0) x 0
+
+-- the whole answer for a header
+unfoldable pub frameSize : FrameHeader → Size
+frameSize h =
+    let n = number (sampleRateAsked h ∷ []) in
+    record { answer = n; bytes = whereAccepted n (slots h) }
+
+-- ---- what the functions promise
+
+pub record ChannelsAre (m : Mode) (r : ℕ) : Type 0 where
+  pub whole : r ≡ channelsOf m
+  pub least : 1 ≤ r
+  pub most : r ≤ 2
+
+pub record BoundIs (e : ModeExtension) (r : ℕ) : Type 0 where
+  pub whole : r ≡ boundOf e
+  pub most : r ≤ 16
+
+pub record SizeIs (h : FrameHeader) (r : FrameSize) : Type 0 where
+  pub whole : sizeOf r ≡ frameSize h
+  pub most : sizeOf r .bytes ≤ 618_475_290_481

@@ -1,0 +1,4 @@
+pub mod Rule
+pub mod Search
+pub mod Keys
+pub mod Descent
