@@ -1,10 +1,10 @@
 -- The rule of the rows, shown a single time over table and subband; the sums of nbal; and that the place of a row's steps and the steps at
 -- a row's place are each other's inverse.
-use mathlib.Core.Path.{_≡_, refl, sym, ap, _∙_, subst}
+use mathlib.Core.Path.{_≡_, refl, sym, ap, ap₂, _∙_, subst}
 use mathlib.Core.Bool.{Bool, true, false, cond, _&&_, and-false}
 use mathlib.Core.List.{List, [], _∷_}
 use mathlib.Core.Option.{none, some, Option·none-ne-some, Option·some-injective}
-use Prim.Native.Nat.{ℕ, zero, suc, _*_, _%_, _^_, _≤_, _<_}
+use Prim.Native.Nat.{ℕ, zero, suc, _+_, _*_, _/_, _%_, _^_, _≤_, _<_}
 use native.Mathlib.Nat.{lt-of-lt-of-le, lt-of-le-of-lt, lt-trans, le-trans, not-suc-le-zero, one-mul, mod-eq-of-lt}
 use native.Mathlib.Decide.{decLt}
 use native.Mathlib.Omega.{arith}
@@ -12,8 +12,8 @@ use borrow.Author.Tests.{le-ltb, lt-leb, eq-eqb, ne-eqb, eqb-true}
 use lib.Pow.{pow-mono}
 use lib.Dec.{T, leb, ltb, eqb, ltb→lt, leb→le, eqb→eq, lit<, lit≤}
 use lib.ListN.{length, getD}
-use Rattle.bitalloc.proofs.Lists.{tabulated, padded}
-use Rattle.bitalloc.specs.Storage.{pad, kept}
+use Rattle.bitalloc.proofs.Lists.{tabulated}
+use Rattle.bitalloc.specs.Storage.{kept}
 use Rattle.tables.specs.Search.{entryAt}
 use Rattle.tables.proofs.Rule.{first, second, allBelow, below, all, all-at, ordered, ordered-at}
 use Rattle.tables.proofs.Search.{there, past, place-found, place-missing, at-place, none-passes}
@@ -137,30 +137,43 @@ steps-small t sb i = everywhere (λ n row. getD row i 0 ≤ 65535) (λ n row r. 
 
 -- ---- the rows as they are kept
 
-pub kept-row : (t : BitAllocTable) (sb : ℕ) (rows : List (List ℕ)) → rows ≡ kept t → sb < 32 → getD rows sb [] ≡ pad 16 (rowOf t sb)
-unfolding kept
-kept-row t sb rows e h = ap (λ (rows : List (List ℕ)). getD rows sb []) e ∙ tabulated 32 (λ sb. pad 16 (rowOf t sb)) sb [] h
+-- a place stands only in the row of a subband that is carried
+carried : (t : BitAllocTable) (sb i : ℕ) → i < length (rowOf t sb) → sb < 30
+carried t sb i h = go (decLt sb 30)
+  where
+    go : Dec (sb < 30) → sb < 30
+    go (yes l) = l
+    go (no l) =
+        let e = no-row t sb (le-trans (sblimit-small t) (omega arith)) in
+        absurd (not-suc-le-zero (subst (λ (row : List ℕ). i < length row) e h))
 
-pub row-past : (t : BitAllocTable) (sb : ℕ) → 32 ≤ sb → pad 16 [] ≡ pad 16 (rowOf t sb)
-row-past t sb h = ap (pad 16) (sym (no-row t sb (le-trans (sblimit-small t) (le-trans (lit≤ tt) h))))
+pub within : (t : BitAllocTable) (sb i places : ℕ) → places ≡ length (rowOf t sb) → i < places → sb < 30
+within t sb i places p h = carried t sb i (subst (λ (n : ℕ). i < n) p h)
 
 -- what the code reads at a place of a row
-pub kept-steps : (t : BitAllocTable) (sb i : ℕ) (row : List ℕ) → row ≡ pad 16 (rowOf t sb) → i < length (rowOf t sb)
-  → getD row i 0 ≡ getD (rowOf t sb) i 0
-kept-steps t sb i row e h =
-    ap (λ (row : List ℕ). getD row i 0) e ∙ padded 16 (rowOf t sb) i (lt-of-lt-of-le h (places-small t sb))
+pub kept-steps : (t : BitAllocTable) (sb i : ℕ) (rows : List ℕ) → rows ≡ kept t → i < length (rowOf t sb)
+  → getD rows (16 * sb + i) 0 ≡ getD (rowOf t sb) i 0
+unfolding kept
+kept-steps t sb i rows e h =
+    let l = carried t sb i h in
+    let s : i < 16 = lt-of-lt-of-le h (places-small t sb) in
+    let q : (16 * sb + i) / 16 ≡ sb = omega arith in
+    let r : (16 * sb + i) % 16 ≡ i = omega arith in
+    ap (λ (rows : List ℕ). getD rows (16 * sb + i) 0) e
+    ∙ tabulated 512 (λ k. getD (rowOf t (k / 16)) (k % 16) 0) (16 * sb + i) 0 (omega arith)
+    ∙ ap₂ (λ (s j : ℕ). getD (rowOf t s) j 0) q r
 
 -- ---- the steps at a place, and the place of steps
 
 held : {m n : ℕ} → Some m ≡ Some n → m ≡ n
 held e = cc
 
-pub steps-there : (t : BitAllocTable) (sb i places : ℕ) (row : List ℕ) → row ≡ pad 16 (rowOf t sb) → places ≡ length (rowOf t sb) → i < places
-  → StepsAre t sb i (Some (getD row i 0))
+pub steps-there : (t : BitAllocTable) (sb i places : ℕ) (rows : List ℕ) → rows ≡ kept t → places ≡ length (rowOf t sb) → i < places
+  → StepsAre t sb i (Some (getD rows (16 * sb + i) 0))
 unfolding stepsAt
-steps-there t sb i places row e p h =
+steps-there t sb i places rows e p h =
     let l : i < length (rowOf t sb) = subst (λ (n : ℕ). i < n) p h in
-    let v = kept-steps t sb i row e l in
+    let v = kept-steps t sb i rows e l in
     record {
       whole = ap some v ∙ sym (there (rowOf t sb) i 0 l);
       below = λ n q. (lt-of-lt-of-le l (places-small t sb), subst (λ (n : ℕ). n ≤ 65535) (sym v ∙ held q) (steps-small t sb i))
@@ -173,26 +186,26 @@ steps-past t sb i places p h = record {
   below = λ n q. absurd (Option·none-ne-some n (ap numberIn q))
 }
 
-pub index-found : (t : BitAllocTable) (sb steps i places : ℕ) (row : List ℕ) → row ≡ pad 16 (rowOf t sb) → places ≡ length (rowOf t sb)
-  → i < places → ((k : ℕ) → k < i → getD row k 0 ≡ steps → ⊥) → getD row i 0 ≡ steps → IndexIs t sb steps (Some i)
+pub index-found : (t : BitAllocTable) (sb steps i places : ℕ) (rows : List ℕ) → rows ≡ kept t → places ≡ length (rowOf t sb)
+  → i < places → ((k : ℕ) → k < i → getD rows (16 * sb + k) 0 ≡ steps → ⊥) → getD rows (16 * sb + i) 0 ≡ steps → IndexIs t sb steps (Some i)
 unfolding indexOf
-index-found t sb steps i places row e p h b q =
+index-found t sb steps i places rows e p h b q =
     let l : i < length (rowOf t sb) = subst (λ (n : ℕ). i < n) p h in
     record {
       whole =
           sym (place-found (λ n. eqb n steps) (rowOf t sb) i 0 l
-          (λ k m. ne-eqb _ _ (λ r. b k m (kept-steps t sb k row e (lt-trans m l) ∙ r)))
-          (eq-eqb _ _ (sym (kept-steps t sb i row e l) ∙ q)));
+          (λ k m. ne-eqb _ _ (λ r. b k m (kept-steps t sb k rows e (lt-trans m l) ∙ r)))
+          (eq-eqb _ _ (sym (kept-steps t sb i rows e l) ∙ q)));
       below = λ j r. subst (λ (n : ℕ). n < 16) (held r) (lt-of-lt-of-le l (places-small t sb))
     }
 
-pub index-missing : (t : BitAllocTable) (sb steps places : ℕ) (row : List ℕ) → row ≡ pad 16 (rowOf t sb) → places ≡ length (rowOf t sb)
-  → ((k : ℕ) → k < places → getD row k 0 ≡ steps → ⊥) → IndexIs t sb steps None
+pub index-missing : (t : BitAllocTable) (sb steps places : ℕ) (rows : List ℕ) → rows ≡ kept t → places ≡ length (rowOf t sb)
+  → ((k : ℕ) → k < places → getD rows (16 * sb + k) 0 ≡ steps → ⊥) → IndexIs t sb steps None
 unfolding indexOf
-index-missing t sb steps places row e p b = record {
+index-missing t sb steps places rows e p b = record {
   whole =
       sym (place-missing (λ n. eqb n steps) (rowOf t sb) 0
-      (λ k l. ne-eqb _ _ (λ r. b k (subst (λ (n : ℕ). k < n) (sym p) l) (kept-steps t sb k row e l ∙ r))));
+      (λ k l. ne-eqb _ _ (λ r. b k (subst (λ (n : ℕ). k < n) (sym p) l) (kept-steps t sb k rows e l ∙ r))));
   below = λ j r. absurd (Option·none-ne-some j (ap numberIn r))
 }
 

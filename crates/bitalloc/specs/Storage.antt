@@ -1,6 +1,7 @@
--- How the code keeps the rows: for each of the 32 subbands sixteen numbers, the row's places and zeros behind them.
-use Prim.Native.Nat.{ℕ, zero, suc}
+-- How the code keeps the rows of a table.
+use Prim.Native.Nat.{ℕ, zero, suc, _/_, _%_}
 use mathlib.Core.List.{List, [], _∷_}
+use lib.ListN.{getD}
 use Rattle.bitalloc.specs.declared.BitAllocTable.{BitAllocTable}
 use Rattle.bitalloc.specs.Tables.{rowOf}
 
@@ -9,12 +10,7 @@ abbrev pub tabulate : {A : Type 0} → ℕ → (ℕ → A) → List A
 tabulate zero f = []
 tabulate (suc n) f = f zero ∷ tabulate n (λ k. f (suc k))
 
--- n numbers: those of the list, and zeros
-abbrev pub pad : ℕ → List ℕ → List ℕ
-pad zero xs = []
-pad (suc n) [] = 0 ∷ pad n []
-pad (suc n) (x ∷ xs) = x ∷ pad n xs
-
-unfoldable pub kept : BitAllocTable → List (List ℕ)
+-- sixteen numbers for each of 32 subbands: the steps at the places of its row, and zeros behind them
+unfoldable pub kept : BitAllocTable → List ℕ
 unfolding rowOf
-kept t = tabulate 32 (λ sb. pad 16 (rowOf t sb))
+kept t = tabulate 512 (λ k. getD (rowOf t (k / 16)) (k % 16) 0)

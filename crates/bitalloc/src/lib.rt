@@ -6,7 +6,7 @@ ghost use Prim.Native.Nat.{_≤_};
 ghost use lib.Dec.{ltb};
 ghost use lib.ListN.{length};
 ghost use Rattle.bitalloc.specs.Tables.{sblimitOf, rowOf, NbalIs, StepsAre, IndexIs};
-ghost use Rattle.bitalloc.specs.Storage.{pad, kept};
+ghost use Rattle.bitalloc.specs.Storage.{kept};
 ghost use Rattle.bitalloc.specs.Options.{numberIn, tableIn};
 ghost use Rattle.bitalloc.specs.Select.{kbpsPerChannel, tableAt, tableOf, free, kbps};
 ghost use Rattle.bitalloc.specs.Classes.{classes, bitsPerSample, grouped, ClassIs, SampleBitsAre};
@@ -67,8 +67,8 @@ impl BitAllocTable {
         let at = index as usize;
         let places = self.places(sb);
         if at < places {
-            let row = self.row(sb);
-            OptionU32::Some(row[at])
+            let rows = self.rows();
+            OptionU32::Some(rows[16 * sb + at])
         } else {
             OptionU32::None
         }
@@ -79,10 +79,10 @@ impl BitAllocTable {
         ensures { λ r. ⌜ IndexIs self sb «nb_steps» r ⌝ }
     {
         let places = self.places(sb);
-        let row = self.row(sb);
+        let rows = self.rows();
         let mut at: usize = 0;
         while at < places {
-            if row[at] == nb_steps {
+            if rows[16 * sb + at] == nb_steps {
                 return OptionU32::Some(at as u32);
             }
             at = at + 1;
@@ -98,19 +98,7 @@ impl BitAllocTable {
         if nbal == 0 { 0 } else { 1 << nbal }
     }
 
-    // The subband's row, with zeros behind its places.
-    fn row(self, sb: usize) -> [u32; 16]
-        ensures { λ r. ⌜ r ≡ pad 16 (rowOf self sb) ⌝ }
-    {
-        if sb < NUM_SUBBANDS {
-            let rows = self.rows();
-            rows[sb]
-        } else {
-            [0; 16]
-        }
-    }
-
-    fn rows(self) -> [[u32; 16]; 32]
+    fn rows(self) -> [u32; 512]
         ensures { λ r. ⌜ r ≡ kept self ⌝ }
     {
         match self {
