@@ -11,9 +11,9 @@ use native.Mathlib.Omega.{arith}
 use borrow.Author.Tests.{le-ltb, lt-leb, eq-eqb, ne-eqb, eqb-true}
 use lib.Pow.{pow-mono}
 use lib.Dec.{T, leb, ltb, eqb, ltb→lt, leb→le, eqb→eq, lit<, lit≤}
-use lib.ListN.{length, getD}
-use Rattle.bitalloc.proofs.Lists.{tabulated}
-use Rattle.bitalloc.specs.Storage.{kept}
+use lib.ListN.{length, getD, replicate}
+use Rattle.tables.proofs.Listed.{tabulated, listed}
+use Rattle.bitalloc.specs.Storage.{kept, rowOf16}
 use Rattle.tables.specs.Search.{entryAt}
 use Rattle.tables.proofs.Rule.{first, second, allBelow, below, all, all-at, ordered, ordered-at}
 use Rattle.tables.proofs.Search.{there, past, place-found, place-missing, at-place, none-passes}
@@ -150,18 +150,33 @@ carried t sb i h = go (decLt sb 30)
 pub within : (t : BitAllocTable) (sb i places : ℕ) → places ≡ length (rowOf t sb) → i < places → sb < 30
 within t sb i places p h = carried t sb i (subst (λ (n : ℕ). i < n) p h)
 
+-- the kept number at any place of the first 32 subbands, a row's or behind it
+pub kept-number : (t : BitAllocTable) (sb p : ℕ) (rows : List ℕ) → rows ≡ kept t → sb < 32 → p < 16
+  → getD rows (16 * sb + p) 0 ≡ getD (rowOf t sb) p 0
+unfolding kept
+kept-number t sb p rows e l s =
+    let q : (16 * sb + p) / 16 ≡ sb = omega arith in
+    let r : (16 * sb + p) % 16 ≡ p = omega arith in
+    ap (λ (rows : List ℕ). getD rows (16 * sb + p) 0) e
+    ∙ tabulated 512 (λ k. getD (rowOf t (k / 16)) (k % 16) 0) (16 * sb + p) 0 (omega arith)
+    ∙ ap₂ (λ (s j : ℕ). getD (rowOf t s) j 0) q r
+
 -- what the code reads at a place of a row
 pub kept-steps : (t : BitAllocTable) (sb i : ℕ) (rows : List ℕ) → rows ≡ kept t → i < length (rowOf t sb)
   → getD rows (16 * sb + i) 0 ≡ getD (rowOf t sb) i 0
-unfolding kept
 kept-steps t sb i rows e h =
     let l = carried t sb i h in
-    let s : i < 16 = lt-of-lt-of-le h (places-small t sb) in
-    let q : (16 * sb + i) / 16 ≡ sb = omega arith in
-    let r : (16 * sb + i) % 16 ≡ i = omega arith in
-    ap (λ (rows : List ℕ). getD rows (16 * sb + i) 0) e
-    ∙ tabulated 512 (λ k. getD (rowOf t (k / 16)) (k % 16) 0) (16 * sb + i) 0 (omega arith)
-    ∙ ap₂ (λ (s j : ℕ). getD (rowOf t s) j 0) q r
+    kept-number t sb i rows e (omega arith) (lt-of-lt-of-le h (places-small t sb))
+
+-- a row that was filled, and one that is not there
+pub row-filled : (t : BitAllocTable) (sb : ℕ) (row : List ℕ) → length row ≡ 16 → ((p : ℕ) → p < 16 → getD row p 0 ≡ getD (rowOf t sb) p 0)
+  → row ≡ rowOf16 t sb
+unfolding rowOf16
+row-filled t sb row e b = listed 16 (λ p. getD (rowOf t sb) p 0) 0 row e b
+
+pub row-past : (t : BitAllocTable) (sb : ℕ) → 32 ≤ sb → replicate 16 0 ≡ rowOf16 t sb
+unfolding rowOf16
+row-past t sb h = rw (no-row t sb (le-trans (sblimit-small t) (le-trans (lit≤ tt) h)))
 
 -- ---- the steps at a place, and the place of steps
 

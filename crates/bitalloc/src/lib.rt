@@ -6,7 +6,7 @@ ghost use Prim.Native.Nat.{_≤_};
 ghost use lib.Dec.{ltb};
 ghost use lib.ListN.{length};
 ghost use Rattle.bitalloc.specs.Tables.{sblimitOf, rowOf, NbalIs, StepsAre, IndexIs};
-ghost use Rattle.bitalloc.specs.Storage.{kept};
+ghost use Rattle.bitalloc.specs.Storage.{kept, rowOf16};
 ghost use Rattle.bitalloc.specs.Options.{numberIn, tableIn};
 ghost use Rattle.bitalloc.specs.Select.{kbpsPerChannel, tableAt, tableOf, free, kbps};
 ghost use Rattle.bitalloc.specs.Classes.{classes, bitsPerSample, grouped, ClassIs, SampleBitsAre};
@@ -88,6 +88,22 @@ impl BitAllocTable {
             at = at + 1;
         }
         OptionU32::None
+    }
+
+    // The steps at the places 0 to 15 of the subband's row; 0 where there is no such place.
+    pub fn row(self, sb: usize) -> [u32; 16]
+        ensures { λ r. ⌜ r ≡ rowOf16 self sb ⌝ }
+    {
+        let mut row = [0; 16];
+        if sb < NUM_SUBBANDS {
+            let rows = self.rows();
+            let mut p: usize = 0;
+            while p < 16 {
+                row[p] = rows[16 * sb + p];
+                p = p + 1;
+            }
+        }
+        row
     }
 
     // How many places the subband's row has.

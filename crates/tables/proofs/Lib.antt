@@ -1,4 +1,5 @@
 pub mod Rule
+pub mod Listed
 pub mod Search
 pub mod Keys
 pub mod Descent

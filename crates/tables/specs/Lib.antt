@@ -1,3 +1,4 @@
 pub mod Decimal
+pub mod Listed
 pub mod Search
 pub mod Scalefactors

@@ -1,0 +1,36 @@
+-- Laws of a list given entry by entry, and of a loop that fills an array from the front.
+use mathlib.Core.Path.{_≡_, refl, ap, sym, _∙_, subst}
+use mathlib.Core.List.{List}
+use mathlib.Core.Logic.{⊎-elim}
+use Prim.Native.Nat.{ℕ, zero, suc, _+_, _<_}
+use native.Mathlib.Nat.{le-of-suc-le-suc, not-suc-le-zero, eq-or-lt-of-le}
+use native.Mathlib.Numerals.{add-one}
+use native.Mathlib.Omega.{arith}
+use lib.ListN.{length, getD, set}
+use lib.Seq.{ext-getD, getD-set-same, getD-set-other}
+use Rattle.tables.specs.Listed.{tabulate}
+
+module _ {A : Type 0} where
+  pub tabulated : (n : ℕ) (f : ℕ → A) (k : ℕ) (d : A) → k < n → getD (tabulate n f) k d ≡ f k
+  tabulated zero f k d h = absurd (not-suc-le-zero h)
+  tabulated (suc n) f zero d h = refl
+  tabulated (suc n) f (suc k) d h = tabulated n (λ k. f (suc k)) k d (le-of-suc-le-suc h)
+
+  pub length-tabulate : (n : ℕ) (f : ℕ → A) → length (tabulate n f) ≡ n
+  length-tabulate zero f = refl
+  length-tabulate (suc n) f = ap suc (length-tabulate n (λ k. f (suc k)))
+
+  -- a list that has f's entries is f's list
+  pub listed : (n : ℕ) (f : ℕ → A) (d : A) (xs : List A) → length xs ≡ n → ((k : ℕ) → k < n → getD xs k d ≡ f k) → xs ≡ tabulate n f
+  listed n f d xs e b =
+      ext-getD d xs (tabulate n f) (e ∙ sym (length-tabulate n f))
+      (λ k l. let h : k < n = subst (λ (m : ℕ). k < m) e l in b k h ∙ sym (tabulated n f k d h))
+
+  -- one more entry is filled in
+  pub filled : (P : ℕ → A → Type 0) (xs : List A) (i : ℕ) (a d : A) → i < length xs → ((k : ℕ) → k < i → P k (getD xs k d)) → P i a
+    → (k : ℕ) → k < i + 1 → P k (getD (set xs i a) k d)
+  filled P xs i a d h b p k l =
+      ⊎-elim
+      (λ e. subst (λ (j : ℕ). P j (getD (set xs i a) j d)) (sym e) (subst (P i) (sym (getD-set-same xs i a d h)) p))
+      (λ m. subst (P k) (sym (getD-set-other xs i k a d (λ e. let q = m in omega arith))) (b k m))
+      (eq-or-lt-of-le (le-of-suc-le-suc (subst (λ (m : ℕ). k < m) (add-one i) l)))
