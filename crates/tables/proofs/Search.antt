@@ -2,13 +2,14 @@
 use mathlib.Core.Path.{_≡_, refl, sym, ap, _∙_, subst}
 use mathlib.Core.Bool.{Bool, true, false, cond, _&&_}
 use mathlib.Core.List.{List, [], _∷_}
+use mathlib.Core.Logic.{_⊎_, inl, inr}
 use mathlib.Core.Option.{Option, none, some, Option·map, Option·none-ne-some, Option·some-injective}
 use Prim.Native.Nat.{ℕ, zero, suc, _≤_, _<_, suc-le-suc}
 use native.Mathlib.Nat.{le-of-suc-le-suc, not-suc-le-zero, zero-lt-suc}
 use native.Mathlib.Omega.{arith}
 use lib.Dec.{T}
 use lib.ListN.{length, getD, getElem?}
-use Rattle.tables.specs.Search.{place, find, entryAt}
+use Rattle.tables.specs.Search.{place, lastPlace, find, entryAt}
 use Rattle.tables.proofs.Rule.{first, second, all}
 
 module _ {A : Type 0} where
@@ -62,6 +63,46 @@ module _ {A : Type 0} where
   none-passes f p [] t b = refl
   none-passes f p (x ∷ xs) t b =
       rw (b x (first (p x) (all p xs) t)) (ap (Option·map suc) (none-passes f p xs (second (p x) (all p xs) t) b))
+
+  -- ---- the last that passes: none behind it does
+
+  pub last-missing : (f : A → Bool) (xs : List A) (d : A) → ((k : ℕ) → k < length xs → f (getD xs k d) ≡ false) → lastPlace f xs ≡ none
+  last-missing f [] d b = refl
+  last-missing f (x ∷ xs) d b =
+      rw (last-missing f xs d (λ k l. b (suc k) (suc-le-suc l)), b zero (zero-lt-suc (length xs)))
+
+  pub last-found : (f : A → Bool) (xs : List A) (i : ℕ) (d : A) → i < length xs → ((k : ℕ) → i < k → k < length xs → f (getD xs k d) ≡ false)
+    → f (getD xs i d) ≡ true → lastPlace f xs ≡ some i
+  last-found f [] i d h b e = absurd (not-suc-le-zero h)
+  last-found f (x ∷ xs) zero d h b e = rw (last-missing f xs d (λ k l. b (suc k) (zero-lt-suc k) (suc-le-suc l)), e)
+  last-found f (x ∷ xs) (suc i) d h b e =
+      rw (last-found f xs i d (le-of-suc-le-suc h) (λ k g l. b (suc k) (suc-le-suc g) (suc-le-suc l)) e)
+
+  -- what a search for the last tells: none passes, or the one found does and none behind it
+  abbrev pub Told : (A → Bool) → List A → A → Type 0
+  Told f xs d =
+      ((lastPlace f xs ≡ none) × ((k : ℕ) → k < length xs → f (getD xs k d) ≡ false))
+      ⊎ ((i : ℕ) × (lastPlace f xs ≡ some i) × (i < length xs) × (f (getD xs i d) ≡ true)
+      × ((k : ℕ) → i < k → k < length xs → f (getD xs k d) ≡ false))
+
+  pub last-told : (f : A → Bool) (xs : List A) (d : A) → Told f xs d
+  last-told f [] d = inl (refl, λ k h. absurd (not-suc-le-zero h))
+  last-told f (x ∷ xs) d = go (last-told f xs d) (f x) refl
+    where
+      behind : (i : ℕ) → ((k : ℕ) → i < k → k < length xs → f (getD xs k d) ≡ false)
+        → (k : ℕ) → suc i < k → k < length (x ∷ xs) → f (getD (x ∷ xs) k d) ≡ false
+      behind i b zero g h = absurd (not-suc-le-zero g)
+      behind i b (suc k) g h = b k (le-of-suc-le-suc g) (le-of-suc-le-suc h)
+      every : f x ≡ false → ((k : ℕ) → k < length xs → f (getD xs k d) ≡ false) → (k : ℕ) → k < length (x ∷ xs) → f (getD (x ∷ xs) k d) ≡ false
+      every e b zero h = e
+      every e b (suc k) h = b k (le-of-suc-le-suc h)
+      after : ((k : ℕ) → k < length xs → f (getD xs k d) ≡ false) → (k : ℕ) → 0 < k → k < length (x ∷ xs) → f (getD (x ∷ xs) k d) ≡ false
+      after b zero g h = absurd (not-suc-le-zero g)
+      after b (suc k) g h = b k (le-of-suc-le-suc h)
+      go : Told f xs d → (b : Bool) → f x ≡ b → Told f (x ∷ xs) d
+      go (inl (e, b)) true q = inr (0, rw (e, q), zero-lt-suc (length xs), q, after b)
+      go (inl (e, b)) false q = inl (rw (e, q), every q b)
+      go (inr (i, e, h, t, b)) v q = inr (suc i, rw e, suc-le-suc h, t, behind i b)
 
   -- ---- the entry that is found
 

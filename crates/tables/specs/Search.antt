@@ -1,4 +1,4 @@
--- Where a table is searched: the first entry that passes a test.
+-- Where a table is searched: the first entry that passes a test, or the last.
 use Prim.Native.Nat.{ℕ, suc}
 use mathlib.Core.Bool.{Bool, false, cond, _||_}
 use mathlib.Core.List.{List, [], _∷_}
@@ -7,10 +7,15 @@ use lib.Dec.{eqb}
 use lib.ListN.{getElem?}
 
 module _ {A : Type 0} where
-  -- its place, counted from 0
+  -- the place of the first, counted from 0
   abbrev pub place : (A → Bool) → List A → Option ℕ
   place f [] = none
   place f (x ∷ xs) = cond (f x) (some 0) (Option·map suc (place f xs))
+
+  -- the place of the last entry that passes
+  abbrev pub lastPlace : (A → Bool) → List A → Option ℕ
+  lastPlace f [] = none
+  lastPlace f (x ∷ xs) = elim (lastPlace f xs) [ none ↦ cond (f x) (some 0) none | some i ↦ some (suc i) ]
 
   -- the entry at a place
   abbrev pub entryAt : List A → Option ℕ → Option A

@@ -1,0 +1,82 @@
+// Scalefactor indices: the search for the multiplier of Table 3-B.1 that covers a granule's samples (ISO/IEC 11172-3 C.1.5.2).
+ghost use mathlib.Core.Path.{_≡_};
+ghost use Prim.Native.Nat.{_+_, _<_, _≤_};
+ghost use lib.ListN.{length};
+ghost use Rattle.encoder_scalefactors.specs.Indices.{indexAt, granuleOf, indicesOf, PickIs, IndexIs};
+
+// Granules of a frame, samples of a granule, and samples of a subband in a frame.
+pub const SCALEFACTOR_GRANULES: usize = 3;
+pub const GRANULE_LEN: usize = 12;
+pub const SUBBAND_SAMPLES_PER_FRAME: usize = 36;
+
+// The last index whose multiplier is at least `max_abs`; 0 where there is none, as for a NaN.
+pub fn pick_scalefactor_index(max_abs: f64) -> u8
+    ensures { λ r. ⌜ PickIs «max_abs» r ⌝ }
+{
+    let table = tables::scalefactors();
+    let mut i: u8 = 62;
+    while i > 0 {
+        if table[i as usize] >= max_abs {
+            return i;
+        }
+        i = i - 1;
+    }
+    0
+}
+
+// The index of a granule's twelve samples.
+pub fn extract_scalefactor_index(samples: &[f64; 12]) -> u8
+    ensures { λ r. ⌜ IndexIs (now (samples .entry)) 0 r ⌝ }
+{
+    index_from(samples, 0)
+}
+
+// The indices of a frame's samples, by granule and subband. Subbands from `sblimit` on have no samples to code, and the last index.
+pub fn compute_scalefactors(subband_samples: &[[f64; 36]; 32], sblimit: usize) -> [[u8; 32]; 3]
+    ensures { λ r. ⌜ r ≡ indicesOf (now («subband_samples» .entry)) sblimit ⌝ }
+{
+    let first = granule(subband_samples, sblimit, 0);
+    let second = granule(subband_samples, sblimit, 1);
+    let third = granule(subband_samples, sblimit, 2);
+    [first, second, third]
+}
+
+// The indices of one granule, by subband.
+fn granule(subband_samples: &[[f64; 36]; 32], sblimit: usize, g: usize) -> [u8; 32]
+    requires { ⌜ g < 3 ⌝ }
+    ensures { λ r. ⌜ r ≡ granuleOf (now («subband_samples» .entry)) sblimit g ⌝ }
+{
+    let mut indices = [62u8; 32];
+    let mut sb: usize = 0;
+    while sb < 32 {
+        indices[sb] = index_at(subband_samples, sblimit, g, sb);
+        sb = sb + 1;
+    }
+    indices
+}
+
+// The index of one granule of one subband.
+fn index_at(subband_samples: &[[f64; 36]; 32], sblimit: usize, g: usize, sb: usize) -> u8
+    requires { ⌜ (g < 3) × (sb < 32) ⌝ }
+    ensures { λ r. ⌜ r ≡ indexAt (now («subband_samples» .entry)) sblimit g sb ⌝ }
+{
+    if sb < sblimit {
+        index_from(&subband_samples[sb], 12 * g)
+    } else {
+        62
+    }
+}
+
+// The index of the twelve samples from `start` on.
+fn index_from(samples: &[f64], start: usize) -> u8
+    requires { ⌜ start + 12 ≤ length (now samples) ⌝ }
+    ensures { λ r. ⌜ IndexIs (now (samples .entry)) start r ⌝ }
+{
+    let mut max_abs: f64 = 0.0;
+    let mut k: usize = 0;
+    while k < 12 {
+        max_abs = ieee_order::max(max_abs, ieee_order::abs(samples[start + k]));
+        k = k + 1;
+    }
+    pick_scalefactor_index(max_abs)
+}
