@@ -1,0 +1,2 @@
+pub mod Scfsi
+pub mod Record

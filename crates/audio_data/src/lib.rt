@@ -1,0 +1,101 @@
+// The side information of a Layer II frame (ISO/IEC 11172-3 2.4.1.6): bit allocation, scalefactor selection information
+// and scalefactor indices, as one record.
+ghost use mathlib.Core.Path.{_≡_};
+ghost use Rattle.audio_data.specs.Scfsi.{CodeIs, PartsAre};
+ghost use Rattle.audio_data.specs.Record.{fresh, filler};
+use bitalloc::BitAllocTable;
+
+// Scalefactor selection information (2.4.2.6): which of the three granules, of 12 samples each, share a scalefactor.
+pub enum Scfsi {
+    // Three scalefactors, one for each granule.
+    ThreePerGranule,
+    // Two: the first for granules 0 and 1, the second for granule 2.
+    Share01Then2,
+    // One for all three granules.
+    ShareAll,
+    // Two: the first for granule 0, the second for granules 1 and 2.
+    Share0Then12,
+}
+
+impl Scfsi {
+    // The two-bit code (2.4.3.3.2).
+    pub fn code(self) -> u8
+        ensures { λ r. ⌜ CodeIs self r ⌝ }
+    {
+        match self {
+            Scfsi::ThreePerGranule => 0,
+            Scfsi::Share01Then2 => 1,
+            Scfsi::ShareAll => 2,
+            Scfsi::Share0Then12 => 3,
+        }
+    }
+
+    // How many scalefactor indices are transmitted.
+    pub fn parts_on_wire(self) -> usize
+        ensures { λ r. ⌜ PartsAre self r ⌝ }
+    {
+        match self {
+            Scfsi::ThreePerGranule => 3,
+            Scfsi::Share01Then2 => 2,
+            Scfsi::ShareAll => 1,
+            Scfsi::Share0Then12 => 2,
+        }
+    }
+}
+
+// One slot's scfsi. A slot is one channel of one subband; its number is 32 * channel + subband.
+pub struct ScfsiSlot {
+    pub scfsi: Scfsi,
+}
+
+// The side information of one frame.
+pub struct AudioData {
+    pub table: BitAllocTable,
+    // How many subbands the table carries.
+    pub sblimit: usize,
+    // From this subband on both channels have one allocation.
+    pub bound: usize,
+    pub channels: usize,
+    // By slot: the number of quantization steps; 0 where nothing is allocated.
+    pub nb_steps: [u32; 64],
+    // By slot.
+    pub scfsi: [ScfsiSlot; 64],
+    // At 3 * slot + granule: the index into Table 3-B.1.
+    pub scalefactor: [u8; 192],
+}
+
+impl AudioData {
+    // Nothing allocated yet.
+    pub fn new(table: BitAllocTable, bound: usize, channels: usize) -> AudioData
+        ensures { λ r. ⌜ r ≡ fresh table bound channels ⌝ }
+    {
+        AudioData {
+            table,
+            sblimit: table.sblimit(),
+            bound,
+            channels,
+            nb_steps: [0; 64],
+            scfsi: [ScfsiSlot {
+                scfsi: Scfsi::ThreePerGranule,
+            }; 64],
+            scalefactor: [0; 192],
+        }
+    }
+
+    // What stands beside a refusal.
+    pub fn filler() -> AudioData
+        ensures { λ r. ⌜ r ≡ filler ⌝ }
+    {
+        AudioData {
+            table: BitAllocTable::B2a,
+            sblimit: 0,
+            bound: 0,
+            channels: 0,
+            nb_steps: [0; 64],
+            scfsi: [ScfsiSlot {
+                scfsi: Scfsi::ThreePerGranule,
+            }; 64],
+            scalefactor: [0; 192],
+        }
+    }
+}

@@ -1,0 +1,4 @@
+pub mod Rounding
+pub mod Codes
+pub mod Grouping
+pub mod Answers

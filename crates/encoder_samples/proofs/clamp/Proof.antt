@@ -1,0 +1,57 @@
+-- `encoder_samples::clamp` meets its contract: below zero and from zero up, the magnitude's whole number and the half give the code.
+use borrow.Author.Needs.{needs}
+use mathlib.Core.Path.{sym, _∙_}
+use native.Mathlib.Omega.{arith}
+use Rattle.encoder_samples.proofs.Rounding.{below-middle, above-middle}
+use Rattle.encoder_samples.proofs.clamp.Statement.{statement}
+use Rattle.encoder_samples.proofs.clamp.Tie as tie
+
+nearest-whole-requires : tie.Need-nearest-whole-requires
+nearest-whole-requires c κs = search needs
+
+sub-least : tie.Need-sub-least
+sub-least c = search needs
+
+least-requires : tie.Need-least-requires
+least-requires c κs = search needs
+
+nearest-whole-requires-2 : tie.Need-nearest-whole-requires-2
+nearest-whole-requires-2 c κs = search needs
+
+add-least : tie.Need-add-least
+add-least c = search needs
+
+least-requires-2 : tie.Need-least-requires-2
+least-requires-2 c κs = search needs
+
+returns : tie.Need-returns
+returns c =
+    let b = c .before .before .before in
+    c .least .ensures
+    ∙ sym (below-middle _ _ _ _ (b .before .fits .half .fits) (b .if1 .taken) (c .before .before .nearest-whole .ensures .0))
+
+returns-2 : tie.Need-returns-2
+returns-2 c =
+    let b = c .before .before in
+    let e = below-middle (b .before .args .last) _ _ _ (b .before .fits .half .fits) (b .if1 .taken) (c .before .nearest-whole .ensures .0) in
+    rw e (omega arith)
+
+returns-3 : tie.Need-returns-3
+returns-3 c =
+    let b = c .before .before in
+    c .least2 .ensures
+    ∙ sym (above-middle _ _ _ _ (b .before .fits .last .fits) (b .if1 .left) (c .before .nearest-whole2 .ensures .0))
+
+pub clamp-spec : {M : Type 1} → statement M
+clamp-spec =
+    tie.close
+    (tie.spec
+    nearest-whole-requires
+    sub-least
+    least-requires
+    nearest-whole-requires-2
+    add-least
+    least-requires-2
+    returns
+    returns-2
+    returns-3)

@@ -1,0 +1,4 @@
+pub mod Class
+pub mod TableC4
+pub mod Select
+pub mod Storage
