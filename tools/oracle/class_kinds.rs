@@ -1,12 +1,12 @@
-//! Quantizer classes, the bits of their samples, and the multipliers.
+//! Quantizer classes, the bits and signal-to-noise ratios of their samples, and the multipliers.
 
-use crate::kind::{Asker, Kind, sorted};
+use crate::kind::{Asker, Kind, found, sorted};
 use crate::steps;
 use reference::bitalloc::{QuantClass, class_of_quantization, is_grouped};
-use reference::encoder_bit_allocator::sample_bits_for;
+use reference::encoder_bit_allocator::{sample_bits_for, snr_db};
 use reference::tables::SCALEFACTORS;
 
-pub const KINDS: [Kind; 5] = [
+pub const KINDS: [Kind; 6] = [
     Kind {
         number: 11,
         name: "class_of_quantization",
@@ -52,6 +52,15 @@ pub const KINDS: [Kind; 5] = [
         halted: None,
         ask: |asker| (0..SCALEFACTORS.len() as u64).for_each(|index| asker.ask(true, &[index])),
         one_in: 1,
+    },
+    Kind {
+        number: 25,
+        name: "snr_db",
+        form: "steps -> found bits",
+        answer: |a| found(snr_db(a[0] as u32).map(f64::to_bits)),
+        halted: None,
+        ask: |asker| ask_steps(asker, 0),
+        one_in: 700,
     },
 ];
 

@@ -22,6 +22,9 @@ pub struct Kind {
     pub one_in: u64,
 }
 
+/// A line has at most so many numbers.
+const LONGEST: usize = 256;
+
 /// Takes a kind's arguments and writes their lines.
 pub struct Asker<'a> {
     pub random: Random,
@@ -49,13 +52,26 @@ impl<'a> Asker<'a> {
         {
             return;
         }
+        let answers = self.answers(arguments);
+        if 1 + arguments.len() + answers.len() > LONGEST {
+            stop(&format!("{}: a line is too long", self.kind.name));
+        }
         let mut line = self.kind.number.to_string();
-        for number in arguments.iter().chain(&self.answers(arguments)) {
+        for number in arguments.iter().chain(&answers) {
             line.push(' ');
             line.push_str(&number.to_string());
         }
-        line.push('\n');
-        if let Err(error) = self.out.write_all(line.as_bytes()) {
+        self.write(&line);
+    }
+
+    /// Asks arguments whose answer was worked out by hand, below a comment that tells it.
+    pub fn by_hand(&mut self, words: &str, arguments: &[u64]) {
+        self.write(&format!("# By hand: {words}"));
+        self.ask(true, arguments);
+    }
+
+    fn write(&mut self, line: &str) {
+        if let Err(error) = writeln!(self.out, "{line}") {
             stop(&format!("cannot write: {error}"));
         }
     }

@@ -1,10 +1,18 @@
 //! Writes the reference Rust's answers as lines of numbers, to be held against the port's.
 
+mod allocation_kinds;
+mod budget_kinds;
 mod class_kinds;
+mod doubles;
 mod header_kinds;
 mod heads;
 mod kind;
 mod random;
+mod ratios;
+mod sample_kinds;
+mod scalefactor_kinds;
+mod scfsi_kinds;
+mod served;
 mod steps;
 mod table_kinds;
 
@@ -19,6 +27,7 @@ const FORMAT: &str = "\
 # Flags are 0 or 1; mode: 0 stereo, 1 joint, 2 dual, 3 single; extension: 0 to 3 for 4, 8, 12, 16.
 # Tables are 0 to 4 for B2a, B2b, B2c, B2d, B1Lsf; a double is its 64 bits as one number.
 # found is 1, or 0 for the Rust's None; the values after a 0 are 0.
+# number is 0 where the call is accepted; a refused call has the number of its refusal.
 ";
 
 /// Every kind, by rising number.
@@ -27,6 +36,11 @@ fn all_kinds() -> Vec<Kind> {
     kinds.extend(table_kinds::KINDS);
     kinds.extend(header_kinds::KINDS);
     kinds.extend(class_kinds::KINDS);
+    kinds.extend(scalefactor_kinds::KINDS);
+    kinds.extend(scfsi_kinds::KINDS);
+    kinds.extend(sample_kinds::KINDS);
+    kinds.extend(budget_kinds::KINDS);
+    kinds.extend(allocation_kinds::KINDS);
     kinds.sort_by_key(|kind| kind.number);
     kinds
 }

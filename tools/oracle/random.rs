@@ -28,6 +28,17 @@ impl Random {
         from[self.below(from.len() as u64) as usize]
     }
 
+    /// True once in so many times.
+    pub fn one_in(&mut self, count: u64) -> bool {
+        self.below(count) == 0
+    }
+
+    /// A double from `low` up to `high`.
+    pub fn between(&mut self, low: f64, high: f64) -> f64 {
+        let unit = (self.next() >> 11) as f64 / (1u64 << 53) as f64;
+        low + (high - low) * unit
+    }
+
     /// A number of 32 bits, short ones as likely as long ones.
     pub fn word(&mut self) -> u64 {
         (self.next() >> 32) >> self.below(33)

@@ -27,6 +27,7 @@ build() {
 build --crate-name oxideav_core --crate-type rlib "$tool/core.rs"
 build --crate-name reference --crate-type rlib --cap-lints allow \
     --extern oxideav_core="$out/liboxideav_core.rlib" "$out/reference.rs"
-build --crate-name oracle --extern reference="$out/libreference.rlib" "$tool/main.rs"
+build --crate-name oracle --extern oxideav_core="$out/liboxideav_core.rlib" \
+    --extern reference="$out/libreference.rlib" "$tool/main.rs"
 
 exec "$out/oracle" "$@"

@@ -107,14 +107,15 @@ impl BitAllocTable {
     }
 
     // How many places the subband's row has.
-    fn places(self, sb: usize) -> usize
+    pub fn places(self, sb: usize) -> usize
         ensures { λ r. ⌜ (r ≡ length (rowOf self sb)) × (r ≤ 16) ⌝ }
     {
         let nbal = self.nbal(sb);
         if nbal == 0 { 0 } else { 1 << nbal }
     }
 
-    fn rows(self) -> [u32; 512]
+    // The rows of all 32 subbands, sixteen numbers each: place p of subband s at 16 * s + p.
+    pub fn rows(self) -> [u32; 512]
         ensures { λ r. ⌜ r ≡ kept self ⌝ }
     {
         match self {

@@ -1,0 +1,126 @@
+-- The answers and their bounds: what the scan finds is among the 64 and below place 15; a round and a run leave no more bits and keep places
+-- below 16; and a loop of rounds keeps to the end.
+use mathlib.Core.Path.{_≡_, sym, ap, _∙_}
+use mathlib.Core.Bool.{Bool, true, false}
+use mathlib.Core.List.{List, []}
+use Prim.Native.Nat.{ℕ, _+_, _≤_, _<_, min}
+use native.Mathlib.Numerals.{add-one}
+use native.Mathlib.Omega.{arith}
+use lib.Ieee.{Float}
+use lib.ListN.{length, getD, length-set}
+use Rattle.allocation_rounds.specs.declared.Candidate.{Candidate}
+use Rattle.allocation_rounds.specs.declared.Candidate.the-variants.{Nobody, Field}
+use Rattle.allocation_rounds.specs.declared.Run.{Run}
+use Rattle.allocation_rounds.specs.Rounds.{Rules, price, placeIn, waits, consider, best, candidate, raiseAt, taken, round, ended}
+use Rattle.allocation_rounds.specs.Lent.{lent}
+use Rattle.allocation_rounds.specs.Answers.{BestIs, Onward, takenBy}
+use Rattle.allocation_rounds.proofs.Fields.{either}
+use Rattle.allocation_rounds.proofs.Scan.{PickedIn, picked-open, picked, open-below}
+use Rattle.allocation_rounds.proofs.Ending.{roomIn, raise-here, raise-else, taken-falls, taken-length, round-nobody, round-taken, round-keeps, ended-nobody, ended-taken, ended-keeps}
+
+-- ---- the scan
+
+-- one field more, of which it was asked whether it waits
+module _ (R : Rules) (places : List ℕ) (closed : List Bool) (n : ℕ) (isWaiting : Bool) (asked : isWaiting ≡ waits R places closed n) where
+  pub met-low : isWaiting ≡ true → placeIn places n < R .top n
+  met-low w = open-below R places closed n (sym asked ∙ w) .1
+
+  module _ (c : Candidate) (e : c ≡ best R places closed n) (r : Candidate) where
+    pub best-over : isWaiting ≡ false → r ≡ c → r ≡ best R places closed (n + 1)
+    best-over w q = rw (add-one n, sym asked ∙ w) (q ∙ e)
+
+    pub best-met : (ratio : Float) → isWaiting ≡ true → ratio ≡ R .ratio n (placeIn places n) → (m : Candidate) → m ≡ consider c n ratio → r ≡ m
+        → r ≡ best R places closed (n + 1)
+    best-met ratio w h m q p =
+        rw (add-one n, sym asked ∙ w)
+        (p ∙ q ∙ ap (consider c n) h ∙ ap (λ (c : Candidate). consider c n (R .ratio n (placeIn places n))) e)
+
+-- all of them
+module _ (places : List ℕ) (closed : List Bool) (fields : ℕ) (tops : List ℕ) (ratios : List Float) where
+  inside : (f : ℕ) (q : Float) → best (lent fields tops ratios []) places closed (min fields 64) ≡ Field f q
+      → (f < 64) × (placeIn places f < 15)
+  inside f q e =
+      let pick = picked (lent fields tops ratios []) places closed (min fields 64) f q e in
+      let below = pick .below in
+      let low = open-below (lent fields tops ratios []) places closed f (pick .waiting) .1 in
+      (omega arith, omega arith)
+
+  pub best-is : (n : ℕ) (r : Candidate) → n ≡ min fields 64
+      → ((charges : List ℕ) → r ≡ best (lent fields tops ratios charges) places closed n) → BestIs places closed fields tops ratios r
+  best-is n r e h = record {
+    whole = λ charges. h charges ∙ ap (best (lent fields tops ratios charges) places closed) e;
+    inside = λ f q p. inside f q (ap (best (lent fields tops ratios []) places closed) (sym e) ∙ sym (h []) ∙ p);
+  }
+
+-- ---- a run goes on
+
+module _ (R : Rules) (tops : (f : ℕ) → R .top f ≤ 15) (s : Run) (fit : R .fields ≤ length (s .places)) where
+  -- from s: every field has its place, no more bits are left, and a place below 16 is below 16
+  abbrev Bounded : Run → Type 0
+  Bounded t = (R .fields ≤ length (t .places)) × (t .left ≤ s .left) × ((f : ℕ) → placeIn (s .places) f < 16 → placeIn (t .places) f < 16)
+
+  bounded : Bounded s
+  bounded = (fit, omega arith, λ f h. h)
+
+  raised : (t : Run) (f : ℕ) (r : Float) → PickedIn R t f r → Bounded t → Bounded (raiseAt R f t)
+  raised t f r pick b =
+      let low = picked-open R t f r pick .1 in
+      let top = tops f in
+      let below = pick .below in
+      let long = b .0 in
+      let less = b .1 in (
+        rw (length-set (t .places) f (placeIn (t .places) f + 1)) long,
+        omega arith,
+        either (λ k. placeIn (s .places) k < 16 → placeIn (raiseAt R f t .places) k < 16) f
+            (λ h. rw (raise-here R t f (omega arith)) (omega arith)) (λ k ne h. rw (raise-else R t f k ne) (b .2 k h)),
+      )
+
+  onward : (t r : Run) → Bounded t → r ≡ t → Onward s t r
+  onward t r b e = record { whole = e; less = rw e (b .1); small = λ f h. rw e (b .2 f h) }
+
+  onward-round : (r : Run) → r ≡ round R s → Onward s (round R s) r
+  onward-round r = onward (round R s) r (round-keeps R Bounded (λ t f r k b l. raised t f r k b) (λ t f r k b l. b) s bounded)
+
+  onward-ended : (r : Run) → r ≡ ended R s → Onward s (ended R s) r
+  onward-ended r = onward (ended R s) r (ended-keeps R Bounded (λ t f r k b l. raised t f r k b) (λ t f r k b l. b) s bounded)
+
+-- by the rules that are lent, from a state of 64 places whose candidate was found
+module _ (fields : ℕ) (tops : List ℕ) (ratios : List Float) (charges : List ℕ) (s : Run) (long : length (s .places) ≡ 64)
+    (c : Candidate) (found : BestIs (s .places) (s .closed) fields tops ratios c) where
+  abbrev rules : Rules
+  rules = lent fields tops ratios charges
+
+  capped : (f : ℕ) → min (getD tops f 0) 15 ≤ 15
+  capped f = omega arith
+
+  fits : min fields 64 ≤ length (s .places)
+  fits = omega arith
+
+  is-candidate : (d : Candidate) → c ≡ d → candidate rules s ≡ d
+  is-candidate d e = sym (found .whole charges) ∙ e
+
+  pub step-over : c ≡ Nobody → Onward s (round rules s) s
+  step-over e = onward-round rules capped s fits s (sym (round-nobody rules s (is-candidate Nobody e)))
+
+  -- a loop of rounds from s₀ has come to s
+  pub loop-over : (s₀ : Run) → length (s₀ .places) ≡ 64 → ended rules s ≡ ended rules s₀ → c ≡ Nobody → Onward s₀ (ended rules s₀) s
+  loop-over s₀ l same e =
+      onward-ended rules capped s₀ (omega arith) s (sym (ended-nobody rules s (is-candidate Nobody e)) ∙ same)
+
+  -- the candidate has had its turn, at its price
+  module _ (f : ℕ) (q : Float) (e : c ≡ Field f q) (cost : ℕ) (p : cost ≡ price rules f (placeIn (s .places) f))
+      (r : Run) (t : r ≡ takenBy f cost s) where
+    is-taken : r ≡ taken rules f s
+    is-taken = t ∙ ap (λ (n : ℕ). takenBy f n s) p
+
+    pub step-on : Onward s (round rules s) r
+    step-on = onward-round rules capped s fits r (is-taken ∙ sym (round-taken rules s f q (is-candidate (Field f q) e)))
+
+    pub loop-falls : roomIn rules r < roomIn rules s
+    loop-falls = rw is-taken (taken-falls rules s f q fits (is-candidate (Field f q) e))
+
+    pub loop-same : (s₀ : Run) → ended rules s ≡ ended rules s₀ → (length (r .places) ≡ 64) × (ended rules r ≡ ended rules s₀)
+    loop-same s₀ same = (
+      ap (λ (r : Run). length (r .places)) is-taken ∙ taken-length rules s f .0 ∙ long,
+      ap (ended rules) is-taken ∙ ended-taken rules s f q fits (is-candidate (Field f q) e) ∙ same,
+    )

@@ -1,0 +1,10 @@
+pub mod Fields
+pub mod Order
+pub mod Scan
+pub mod Ending
+pub mod OnTheWay
+pub mod Exchange
+pub mod Tests
+pub mod Answers
+pub mod Floats
+pub mod Agree

@@ -1,0 +1,4 @@
+pub mod Rounds
+pub mod Promises
+pub mod Lent
+pub mod Answers

@@ -1,0 +1,26 @@
+-- `encoder_bit_allocator::accepted` meets its contract.
+use borrow.Author.Needs.{needs}
+use Rattle.encoder_bit_allocator.proofs.RunLaws.{accepted-in}
+use Rattle.encoder_bit_allocator.proofs.accepted.Statement.{statement}
+use Rattle.encoder_bit_allocator.proofs.accepted.Tie as tie
+
+rows-requires : tie.Need-rows-requires
+rows-requires c κs = search needs
+
+run-of-requires : tie.Need-run-of-requires
+run-of-requires c κs = search needs
+
+new-requires : tie.Need-new-requires
+new-requires c κs = search needs
+
+steps-held-requires : tie.Need-steps-held-requires
+steps-held-requires c κs = search needs
+
+returns : tie.Need-returns
+returns c =
+    let n = c .before .before .before .before in
+    accepted-in _ _ _ _ _ _ (n .before .run-of .ensures) (n .new .ensures) (c .steps-held .ensures)
+
+pub accepted-spec : {M : Type 1} → statement M
+accepted-spec =
+    tie.close (tie.spec rows-requires run-of-requires new-requires steps-held-requires returns)

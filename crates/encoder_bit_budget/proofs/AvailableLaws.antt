@@ -1,0 +1,78 @@
+-- The offered bits: the code's signed difference is the definition's, and each answer follows from the budget's.
+use mathlib.Core.Path.{_≡_, refl, sym, ap, ap₂, _∙_, subst}
+use mathlib.Core.Bool.{Bool, true, false, cond}
+use mathlib.Core.List.{[], _∷_}
+use mathlib.Core.Logic.{⊎-elim}
+use Prim.Native.Nat.{ℕ, zero, suc, _+_, _-_, _^_, _<_, zero-le}
+use native.Mathlib.Omega.{arith}
+use lib.Dec.{eqb, ltb, leb}
+use lib.IntN.{ℤ, pos, negsuc, _-ℤ_}
+use lib.Ieee.{minus}
+use mir.Syntax.{w64}
+use mir.Val.{SFits, toZ, ofZ}
+use mir.Facts.{toZ-pos, toZ-ofZ}
+use types.Run.{OneOf}
+use denote.Enum.Declared.{tagOf}
+use borrow.Author.Tests.{le-leb, leb-true, leb-false, ltb-true, ltb-false}
+use Rattle.header.specs.declared.FrameHeader.{FrameHeader}
+use Rattle.encoder_bit_budget.specs.declared.FixedBitBudget.{FixedBitBudget}
+use Rattle.encoder_bit_budget.specs.declared.Budget.{Budget}
+use Rattle.encoder_bit_budget.specs.declared.Budget.the-variants.{Ok, NoBitallocTable, ZeroSampleRate, FrameTooLarge}
+use Rattle.encoder_bit_budget.specs.declared.AvailableBits.{AvailableBits}
+use Rattle.encoder_bit_budget.specs.Budget.{BudgetAnswer, budgetIn, budgetOf, fixedIn, offeredIn, availableOf}
+use Rattle.encoder_bit_budget.proofs.Budget.{the-type}
+
+-- ---- a difference below 0 too
+
+difference : (a b : ℕ) → pos a -ℤ pos b ≡ minus a b
+difference a zero = rw (le-leb 0 a zero-le) (ap pos (omega arith))
+difference a (suc b) = go (ltb a (suc b)) refl (leb (suc b) a) refl
+  where
+    go : (l : Bool) → ltb a (suc b) ≡ l → (m : Bool) → leb (suc b) a ≡ m
+      → cond l (negsuc (suc b - suc a)) (pos (a - suc b)) ≡ cond m (pos (a - suc b)) (negsuc (suc b - suc a))
+    go true p true q = let h = ltb-true a (suc b) p in let g = leb-true (suc b) a q in absurd (omega arith)
+    go true p false q = refl
+    go false p true q = refl
+    go false p false q = let h = ltb-false a (suc b) p in let g = leb-false (suc b) a q in absurd (omega arith)
+
+difference-fits : (a b : ℕ) → a < 2 ^ 63 → b < 2 ^ 63 → SFits w64 (minus a b)
+difference-fits a b h g = go (leb b a)
+  where
+    go : (l : Bool) → SFits w64 (cond l (pos (a - b)) (negsuc (b - suc a)))
+    go true = record { sfits = omega arith }
+    go false = record { sfits = omega arith }
+
+module _ (a b : ℕ) (ha : a < 2 ^ 63) (hb : b < 2 ^ 63) where
+  read : toZ w64 a -ℤ toZ w64 b ≡ minus a b
+  read = ap₂ _-ℤ_ (toZ-pos w64 ha) (toZ-pos w64 hb) ∙ difference a b
+
+  pub signed-fits : SFits w64 (toZ w64 a -ℤ toZ w64 b)
+  signed-fits = subst (SFits w64) (sym read) (difference-fits a b ha hb)
+
+  pub signed : toZ w64 (ofZ w64 (toZ w64 a -ℤ toZ w64 b)) ≡ minus a b
+  signed = toZ-ofZ signed-fits ∙ read
+
+-- ---- the answers
+
+-- a refused budget's number is not 0
+pub refused : (r : Budget) → OneOf (1 ∷ 2 ∷ 3 ∷ []) (tagOf the-type r) → eqb (budgetIn r .answer) 0 ≡ false
+refused (Ok b) h = absurd (⊎-elim (λ e. omega arith) (⊎-elim (λ e. omega arith) (λ e. omega arith)) h)
+refused NoBitallocTable h = refl
+refused ZeroSampleRate h = refl
+refused FrameTooLarge h = refl
+
+-- what the definition makes of the budget's answer
+abbrev availableIn : BudgetAnswer → ℕ → AvailableBits
+availableIn a banc = record { number = a .answer; bits = cond (eqb (a .answer) 0) (offeredIn (a .budget) banc) (pos 0) }
+
+pub none-offered : (h : FrameHeader) (banc : ℕ) (r : Budget) (n : ℕ) → budgetIn r ≡ budgetOf h → eqb (budgetIn r .answer) 0 ≡ false
+  → n ≡ budgetIn r .answer → _≡_ {A = AvailableBits} (record { number = n; bits = pos 0 }) (availableOf h banc)
+unfolding availableOf
+none-offered h banc r n e f p =
+    let same : _≡_ {A = AvailableBits} (record { number = n; bits = pos 0 }) (availableIn (budgetIn r) banc) = rw (p, f) in
+    same ∙ ap (λ a. availableIn a banc) e
+
+pub offered : (h : FrameHeader) (banc : ℕ) (b : FixedBitBudget) (z : ℤ) → budgetIn (Ok b) ≡ budgetOf h → z ≡ minus (b .cb) (fixedIn b + banc)
+  → _≡_ {A = AvailableBits} (record { number = 0; bits = z }) (availableOf h banc)
+unfolding availableOf
+offered h banc b z e p = ap (λ z. record { number = 0; bits = z }) p ∙ ap (λ a. availableIn a banc) e

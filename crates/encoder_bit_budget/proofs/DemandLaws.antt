@@ -1,0 +1,166 @@
+-- What the search along the first places of a row finds: the definition's steps for a ratio.
+use mathlib.Core.Path.{_≡_, refl, sym, ap, ap₂, _∙_}
+use mathlib.Core.Bool.{Bool, true, false, cond}
+use mathlib.Core.List.{List}
+use Prim.Native.Nat.{ℕ, _+_, _-_, _*_, _%_, _^_, _≤_, _<_}
+use native.Mathlib.Decide.{decLt}
+use native.Mathlib.Nat.{le-refl}
+use borrow.Author.Count.{below-more}
+use native.Mathlib.Omega.{arith}
+use lib.ListN.{length, getD, take, drop, length-drop}
+use lib.Pow.{pow-pos}
+use lib.Dec.{eqb, ltb, lit≤}
+use lib.Seq.{ext-getD, length-take-le, getD-take, getD-drop}
+use lib.Ieee.{Float, fin, le}
+use lib.IntN.{pos}
+use borrow.Author.Tests.{lt-ltb, le-ltb, eq-eqb, ne-eqb}
+use Rattle.tables.specs.Listed.{tabulate}
+use Rattle.tables.proofs.Listed.{tabulated, length-tabulate}
+use Rattle.ieee_order.specs.Order.{maxOf}
+use Rattle.bitalloc.specs.declared.BitAllocTable.{BitAllocTable}
+use Rattle.bitalloc.specs.Tables.{NbalIs, nbalOf, rowOf, sblimitOf}
+use Rattle.bitalloc.specs.Storage.{rowOf16}
+use Rattle.bitalloc.proofs.RowLaws.{row-rule, some-places, places-small}
+use Rattle.bitalloc.specs.Classes.{sampleBits}
+use Rattle.tables.proofs.Search.{find-found, find-missing}
+use Rattle.header.specs.declared.FrameHeader.{FrameHeader}
+use Rattle.encoder_bit_budget.specs.declared.FixedBitBudget.{FixedBitBudget}
+use Rattle.encoder_bit_budget.specs.declared.Budget.{Budget}
+use Rattle.encoder_bit_budget.specs.declared.Budget.the-variants.{Ok}
+use Rattle.encoder_bit_budget.specs.declared.DemandBits.{DemandBits}
+use Rattle.encoder_bit_budget.specs.Budget.{BudgetAnswer, budgetIn, budgetOf, budgetUnder}
+use Rattle.encoder_bit_budget.specs.Snr.{snr}
+use Rattle.encoder_bit_budget.specs.Demand.{neededSteps, neededBits, orTop, smrAt, fieldDemand, demandUnder, demandOf, DemandIs}
+use Rattle.encoder_bit_budget.specs.Layout.{fieldsAt, fieldsBelow, fieldsOf, sumOver}
+use Rattle.encoder_bit_budget.proofs.FieldLaws.{fieldsBy}
+use Rattle.encoder_bit_budget.proofs.BudgetLaws.{accepted-is}
+
+-- no place above 0 and below `at` reaches the ratio
+abbrev pub Passed : List ℕ → Float → ℕ → Type 0
+Passed row smr at = (k : ℕ) → k < at → 1 ≤ k → le smr (snr (getD row k 0)) ≡ false
+
+module _ (row : List ℕ) (places : ℕ) (smr : Float) (fits : places ≤ length row) (some-place : 1 ≤ places) where
+  -- the places above 0, as they stand in the row
+  rest-length : length (drop 1 (take places row)) ≡ places - 1
+  rest-length = length-drop 1 (take places row) ∙ ap (λ (n : ℕ). n - 1) (length-take-le places row fits)
+
+  rest-at : (k : ℕ) → k + 1 < places → getD (drop 1 (take places row)) k 0 ≡ getD row (k + 1) 0
+  rest-at k h =
+      getD-drop 1 (take places row) k 0
+      ∙ getD-take places row (1 + k) 0 (omega arith) ∙ ap (λ (n : ℕ). getD row n 0) (omega arith)
+
+  unreached : (at : ℕ) → at ≤ places → Passed row smr at → (k : ℕ) → k + 1 < at → le smr (snr (getD (drop 1 (take places row)) k 0)) ≡ false
+  unreached at l b k h = ap (λ (n : ℕ). le smr (snr n)) (rest-at k (omega arith)) ∙ b (k + 1) h (omega arith)
+
+  -- the first place that reaches it
+  pub reached : (at : ℕ) → 1 ≤ at → at < places → Passed row smr at → le smr (snr (getD row at 0)) ≡ true
+    → getD row at 0 ≡ neededSteps (take places row) smr
+  unfolding neededSteps
+  reached at l h b e =
+      let same : at - 1 + 1 ≡ at = omega arith in
+      let v : getD (drop 1 (take places row)) (at - 1) 0 ≡ getD row at 0 = rest-at (at - 1) (omega arith) ∙ ap (λ (n : ℕ). getD row n 0) same in
+      sym (ap (orTop (take places row))
+      (find-found (λ n. le smr (snr n)) (drop 1 (take places row)) (at - 1) 0 (rw rest-length (omega arith))
+      (λ k m. unreached at (omega arith) b k (omega arith)) (ap (λ (n : ℕ). le smr (snr n)) v ∙ e))
+      ∙ v)
+
+  unreached-top : ((k : ℕ) → k + 1 < places → le smr (snr (getD (drop 1 (take places row)) k 0)) ≡ false)
+    → getD row (places - 1) 0 ≡ neededSteps (take places row) smr
+  unfolding neededSteps
+  unreached-top b =
+      sym (ap (orTop (take places row))
+      (find-missing (λ n. le smr (snr n)) (drop 1 (take places row)) 0 (λ k m. b k (let h = rw rest-length at m in omega arith)))
+      ∙ ap (λ (n : ℕ). getD (take places row) (n - 1) 0) (length-take-le places row fits)
+      ∙ getD-take places row (places - 1) 0 (omega arith))
+
+  -- the top place, whether it reaches the ratio or not
+  pub top : Passed row smr (places - 1) → getD row (places - 1) 0 ≡ neededSteps (take places row) smr
+  top b = go (le smr (snr (getD row (places - 1) 0))) refl (decLt 1 places)
+    where
+      go : (t : Bool) → le smr (snr (getD row (places - 1) 0)) ≡ t → Dec (1 < places) → getD row (places - 1) 0 ≡ neededSteps (take places row) smr
+      go true e (yes h) = reached (places - 1) (omega arith) (omega arith) b e
+      go true e (no h) = unreached-top (λ k m. absurd (omega arith))
+      go false e d =
+          unreached-top
+          (unreached places (le-refl places) (λ k m l. below-more (λ k. 1 ≤ k → le smr (snr (getD row k 0)) ≡ false) (places - 1) b (λ l. e) k (omega arith) l))
+
+-- ---- the bits of a field
+
+pub nothing : (row : List ℕ) (smr : Float) (first : ℕ) → le smr (fin false 0 (pos 0)) ≡ true → 0 ≡ neededBits row smr first
+unfolding neededBits
+nothing row smr first e = rw e
+
+pub something : (row : List ℕ) (smr : Float) (first n bits : ℕ) → le smr (fin false 0 (pos 0)) ≡ false → n ≡ neededSteps row smr → bits ≡ sampleBits n
+  → bits + first ≡ neededBits row smr first
+unfolding neededBits
+something row smr first n bits e p q = rw (e, q, p)
+
+-- ---- a subband's row as the code reads it: as many of sixteen numbers as it has places
+
+pub record RowRead (t : BitAllocTable) (sb places : ℕ) (row : List ℕ) : Type 0 where
+  pub taken : take places row ≡ rowOf t sb
+  pub least : 1 ≤ places
+  pub most : places ≤ 16
+  pub long : length row ≡ 16
+
+taken-back : (xs : List ℕ) → length xs ≤ 16 → take (length xs) (tabulate 16 (λ p. getD xs p 0)) ≡ xs
+taken-back xs l =
+    let row = tabulate 16 (λ p. getD xs p 0) in
+    let e : length (take (length xs) row) ≡ length xs = length-take-le (length xs) row (rw (length-tabulate 16 (λ p. getD xs p 0)) l) in
+    ext-getD 0 (take (length xs) row) xs e
+    (λ k h. let m : k < length xs = rw e at h in
+    getD-take (length xs) row k 0 m ∙ tabulated 16 (λ p. getD xs p 0) k 0 (omega arith))
+
+pub row-read : (t : BitAllocTable) (sb nbal : ℕ) (row : List ℕ) → sb < sblimitOf t → NbalIs t sb nbal → row ≡ rowOf16 t sb
+  → RowRead t sb ((1 * 2 ^ nbal) % 2 ^ 64) row
+unfolding rowOf16
+row-read t sb nbal row h n e =
+    let r = row-rule t sb h in
+    let p = some-places t sb nbal n (λ z. let w : nbal ≡ nbalOf t sb = n .whole in let l = r .least in omega arith) in
+    record {
+      taken = ap₂ (λ (m : ℕ) (row : List ℕ). take m row) p e ∙ taken-back (rowOf t sb) (places-small t sb);
+      least = rw (p, r .places) (pow-pos (nbalOf t sb));
+      most = rw p (places-small t sb);
+      long = ap length e ∙ length-tabulate 16 (λ p. getD (rowOf t sb) p 0)
+    }
+
+-- ---- a subband's fields
+
+module _ (t : BitAllocTable) (smr : List (List Float)) (bound channels sb : ℕ) (row : List ℕ) (taken : row ≡ rowOf t sb) where
+  pub in-mono : (a : ℕ) → channels ≡ 1 → a ≡ neededBits row (smrAt smr 0 sb) 20 → a ≡ sumOver (fieldDemand t smr) (fieldsAt bound channels sb)
+  in-mono a one e = rw (eq-eqb channels 1 one) (go (ltb sb bound) (rw taken at e))
+    where
+      go : (own : Bool) → a ≡ neededBits (rowOf t sb) (smrAt smr 0 sb) 20 → a ≡ sumOver (fieldDemand t smr) (fieldsBy own true sb)
+      go true e = omega arith
+      go false e = omega arith
+
+  pub in-own : (a b : ℕ) → (channels ≡ 1 → ⊥) → sb < bound → a ≡ neededBits row (smrAt smr 0 sb) 20 → b ≡ neededBits row (smrAt smr 1 sb) 20
+    → a + b ≡ sumOver (fieldDemand t smr) (fieldsAt bound channels sb)
+  in-own a b two l e f =
+      rw (ne-eqb channels 1 two, lt-ltb sb bound l)
+      (let e′ = rw taken at e in let f′ = rw taken at f in omega arith)
+
+  pub in-shared : (a : ℕ) (m : Float) → (channels ≡ 1 → ⊥) → bound ≤ sb → m ≡ maxOf (smrAt smr 0 sb) (smrAt smr 1 sb) → a ≡ neededBits row m 40
+    → a ≡ sumOver (fieldDemand t smr) (fieldsAt bound channels sb)
+  in-shared a m two l p e = rw (ne-eqb channels 1 two, le-ltb sb bound l) (let e′ = rw (taken, p) at e in omega arith)
+
+-- ---- the answers
+
+-- what the definition makes of the budget's answer
+abbrev demandIn : FrameHeader → List (List Float) → BudgetAnswer → DemandBits
+demandIn h smr a = record { number = a .answer; bits = cond (eqb (a .answer) 0) (demandUnder h smr (a .budget .table)) 0 }
+
+pub none-demanded : (h : FrameHeader) (smr : List (List Float)) (r : Budget) (n : ℕ) → budgetIn r ≡ budgetOf h → eqb (budgetIn r .answer) 0 ≡ false
+  → n ≡ budgetIn r .answer → DemandIs h smr (record { number = n; bits = 0 })
+unfolding demandOf
+none-demanded h smr r n e f p =
+    let same : _≡_ {A = DemandBits} (record { number = n; bits = 0 }) (demandIn h smr (budgetIn r)) = rw (p, f) in
+    record { whole = same ∙ ap (demandIn h smr) e; small = lit≤ tt }
+
+pub demanded : (h : FrameHeader) (smr : List (List Float)) (b : FixedBitBudget) (bits : ℕ) → budgetIn (Ok b) ≡ budgetOf h
+  → bits ≡ sumOver (fieldDemand (b .table) smr) (fieldsBelow (b .bound) (b .channels) (b .sblimit)) → bits ≤ 60 * 616
+  → DemandIs h smr (record { number = 0; bits = bits })
+unfolding demandOf fieldsOf
+demanded h smr b bits e p l =
+    let q = ap (λ (c : FixedBitBudget). sumOver (fieldDemand (b .table) smr) (fieldsBelow (c .bound) (c .channels) (c .sblimit))) (accepted-is h b e) in
+    record { whole = ap (λ (n : ℕ). record { number = 0; bits = n }) (p ∙ q) ∙ ap (demandIn h smr) e; small = l }

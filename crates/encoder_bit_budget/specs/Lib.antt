@@ -1,0 +1,4 @@
+pub mod Snr
+pub mod Layout
+pub mod Budget
+pub mod Demand

@@ -1,0 +1,298 @@
+// The bits of a frame: what is fixed, what is offered to samples and scalefactors, and what the signal-to-mask ratios demand. The constant
+// terms of the bit allocation of ISO/IEC 11172-3 C.1.5.2.7 and the required bit rate of Annex G.1.
+ghost use mathlib.Core.Path.{_≡_};
+ghost use mathlib.Core.Bool.{cond};
+ghost use Prim.Native.Nat.{_+_, _≤_, _<_};
+ghost use lib.Ieee.{le};
+ghost use lib.ListN.{length, take};
+ghost use Rattle.header.specs.Header.{boundOf};
+ghost use Rattle.bitalloc.specs.Tables.{sblimitOf, nbalOf};
+ghost use Rattle.encoder_bit_budget.specs.Snr.{snrOf, snr, ratioIn};
+ghost use Rattle.encoder_bit_budget.specs.Layout.{fieldsAt, fieldsBelow, sharedFrom, sumOver};
+ghost use Rattle.encoder_bit_budget.specs.Budget.{fixedIn, budgetIn, availableOf, BudgetIs};
+ghost use Rattle.encoder_bit_budget.specs.Demand.{neededSteps, neededBits, fieldDemand, DemandIs};
+use bitalloc::{BitAllocTable, OptionTable};
+use header::{FrameHeader, FrameSize, Mode};
+
+// A number, or nothing.
+pub enum OptionF64 {
+    Some(f64),
+    None,
+}
+
+// The signal-to-noise ratio in dB of a number of steps (Table C.5); no steps have 0 dB.
+pub fn snr_db(nb_steps: u32) -> OptionF64
+    ensures { λ r. ⌜ ratioIn r ≡ snrOf «nb_steps» ⌝ }
+{
+    match nb_steps {
+        0 => OptionF64::Some(0.00),
+        3 => OptionF64::Some(7.00),
+        5 => OptionF64::Some(11.00),
+        7 => OptionF64::Some(16.00),
+        9 => OptionF64::Some(20.84),
+        15 => OptionF64::Some(25.28),
+        31 => OptionF64::Some(31.59),
+        63 => OptionF64::Some(37.75),
+        127 => OptionF64::Some(43.84),
+        255 => OptionF64::Some(49.89),
+        511 => OptionF64::Some(55.93),
+        1023 => OptionF64::Some(61.96),
+        2047 => OptionF64::Some(67.98),
+        4095 => OptionF64::Some(74.01),
+        8191 => OptionF64::Some(80.03),
+        16383 => OptionF64::Some(86.05),
+        32767 => OptionF64::Some(92.01),
+        65535 => OptionF64::Some(98.01),
+        _ => OptionF64::None,
+    }
+}
+
+// The bits that are spent before any sample is coded.
+pub struct FixedBitBudget {
+    // The bits of the frame.
+    pub cb: u32,
+    // The header's.
+    pub bhdr: u32,
+    // The CRC's, or 0.
+    pub bcrc: u32,
+    // The allocation fields'.
+    pub bbal: u32,
+    // How many subbands are carried.
+    pub sblimit: usize,
+    // From this subband on one allocation field serves both channels.
+    pub bound: usize,
+    pub channels: usize,
+    pub table: BitAllocTable,
+}
+
+impl FixedBitBudget {
+    // The header of 2.4.1.3.
+    pub const HEADER_BITS: u32 = 32;
+
+    // The CRC of 2.4.1.4.
+    pub const CRC_BITS: u32 = 16;
+
+    // What a channel's first step in a subband costs besides the samples: the scfsi, of 2 bits, and the most scalefactors that it can
+    // announce, three of 6 bits.
+    pub const FIRST_STEP_BITS: u32 = 20;
+
+    // The bits of the header, the CRC and the allocation fields.
+    pub fn fixed(self) -> u64
+        ensures { λ r. ⌜ r ≡ fixedIn self ⌝ }
+    {
+        (self.bhdr as u64) + (self.bcrc as u64) + (self.bbal as u64)
+    }
+}
+
+// What `fixed_bit_budget` answers.
+pub enum Budget {
+    Ok(FixedBitBudget),
+    NoBitallocTable,
+    ZeroSampleRate,
+    FrameTooLarge,
+}
+
+impl Budget {
+    // The answer's number: 0 where the budget is accepted.
+    pub fn refusal(self) -> u32
+        ensures { λ r. ⌜ r ≡ budgetIn self .answer ⌝ }
+    {
+        match self {
+            Budget::Ok(_) => 0,
+            Budget::NoBitallocTable => 1,
+            Budget::ZeroSampleRate => 2,
+            Budget::FrameTooLarge => 3,
+        }
+    }
+}
+
+// The bits that are fixed for a header's frame.
+pub fn fixed_bit_budget(header: FrameHeader) -> Budget
+    ensures { λ r. ⌜ BudgetIs header r ⌝ }
+{
+    let selected = bitalloc::select_table(header);
+    let OptionTable::Some(table) = selected else {
+        return Budget::NoBitallocTable;
+    };
+    let size = header.frame_size_bytes();
+    let FrameSize::Bytes(bytes) = size else {
+        return Budget::ZeroSampleRate;
+    };
+    if 536_870_911 < bytes {
+        return Budget::FrameTooLarge;
+    }
+    let sblimit = table.sblimit();
+    let bound = shared_from(header, sblimit);
+    let channels = header.channels();
+    let bcrc = crc_bits(header.protection_bit);
+    let bbal = allocation_bits(table, bound, channels);
+    Budget::Ok(FixedBitBudget {
+        cb: 8 * (bytes as u32),
+        bhdr: FixedBitBudget::HEADER_BITS,
+        bcrc,
+        bbal,
+        sblimit,
+        bound,
+        channels,
+        table,
+    })
+}
+
+// The CRC is there where the protection bit is 0 (2.4.2.3).
+fn crc_bits(protection_bit: bool) -> u32
+    ensures { λ r. ⌜ (r ≡ cond «protection_bit» 0 16) × (r ≤ 16) ⌝ }
+{
+    if protection_bit { 0 } else { FixedBitBudget::CRC_BITS }
+}
+
+// From which subband on the channels share a field: only in joint stereo, as the mode extension says.
+fn shared_from(header: FrameHeader, sblimit: usize) -> usize
+    ensures { λ r. ⌜ (r ≡ sharedFrom (header .mode) (boundOf (header .«mode_extension»)) sblimit) × (r ≤ sblimit) ⌝ }
+{
+    let mode = header.mode;
+    match mode {
+        Mode::Stereo => sblimit,
+        Mode::JointStereo => {
+            let extension = header.mode_extension;
+            let bound = extension.bound();
+            if bound < sblimit { bound } else { sblimit }
+        }
+        Mode::DualChannel => sblimit,
+        Mode::SingleChannel => sblimit,
+    }
+}
+
+// How many allocation fields a subband has.
+fn fields_in(bound: usize, channels: usize, sb: usize) -> u32
+    ensures { λ r. ⌜ (r ≡ length (fieldsAt bound channels sb)) × (r ≤ 2) ⌝ }
+{
+    if sb < bound {
+        if channels == 1 { 1 } else { 2 }
+    } else {
+        1
+    }
+}
+
+// The bits of all allocation fields.
+fn allocation_bits(table: BitAllocTable, bound: usize, channels: usize) -> u32
+    ensures { λ r. ⌜ r ≡ sumOver (λ x. nbalOf table (x .subband)) (fieldsBelow bound channels (sblimitOf table)) ⌝ }
+{
+    let sblimit = table.sblimit();
+    let mut bits: u32 = 0;
+    let mut sb: usize = 0;
+    while sb < sblimit {
+        bits = bits + fields_in(bound, channels, sb) * table.nbal(sb);
+        sb = sb + 1;
+    }
+    bits
+}
+
+// An answer's number, and the bits offered, which may be below 0; 0 where it is refused.
+pub struct AvailableBits {
+    pub number: u32,
+    pub bits: i64,
+}
+
+// What the frame offers to samples and scalefactors beside `banc` ancillary bits.
+pub fn available_data_bits(header: FrameHeader, banc: u32) -> AvailableBits
+    ensures { λ r. ⌜ r ≡ availableOf header banc ⌝ }
+{
+    let budget = fixed_bit_budget(header);
+    let Budget::Ok(b) = budget else {
+        let number = budget.refusal();
+        return AvailableBits { number, bits: 0 };
+    };
+    let spent = b.fixed() + (banc as u64);
+    AvailableBits {
+        number: 0,
+        bits: (b.cb as i64) - (spent as i64),
+    }
+}
+
+// An answer's number, and the bits demanded; 0 where it is refused.
+pub struct DemandBits {
+    pub number: u32,
+    pub bits: u64,
+}
+
+// The data bits with which every allocation field has a mask-to-noise ratio of at least 0 dB (Annex G.1, required bit rate).
+pub fn demand_bits(header: FrameHeader, smr_db: [[f64; 32]; 2]) -> DemandBits
+    ensures { λ r. ⌜ DemandIs header «smr_db» r ⌝ }
+{
+    let budget = fixed_bit_budget(header);
+    let Budget::Ok(b) = budget else {
+        let number = budget.refusal();
+        return DemandBits { number, bits: 0 };
+    };
+    let table = b.table;
+    let bound = b.bound;
+    let channels = b.channels;
+    let sblimit = b.sblimit;
+    let mut bits: u64 = 0;
+    let mut sb: usize = 0;
+    while sb < sblimit {
+        bits = bits + subband_demand(table, bound, channels, sb, &smr_db);
+        sb = sb + 1;
+    }
+    DemandBits { number: 0, bits }
+}
+
+// The demand of a subband's fields: each channel's own below the bound, and one for both from there on.
+fn subband_demand(table: BitAllocTable, bound: usize, channels: usize, sb: usize, smr_db: &[[f64; 32]; 2]) -> u64
+    requires { ⌜ sb < sblimitOf table ⌝ }
+    ensures { λ r. ⌜ (r ≡ sumOver (fieldDemand table (now («smr_db» .entry))) (fieldsAt bound channels sb)) × (r ≤ 1232) ⌝ }
+{
+    let row = table.row(sb);
+    let places = 1 << table.nbal(sb);
+    let left = smr_db[0][sb];
+    let once = FixedBitBudget::FIRST_STEP_BITS;
+    if channels == 1 {
+        return needed_bits(&row, places, left, once);
+    }
+    let right = smr_db[1][sb];
+    if sb < bound {
+        needed_bits(&row, places, left, once) + needed_bits(&row, places, right, once)
+    } else {
+        needed_bits(&row, places, ieee_order::max(left, right), 2 * once)
+    }
+}
+
+// The demand of a field at a ratio; a ratio of at most 0 dB needs nothing.
+fn needed_bits(row: &[u32; 16], places: usize, smr: f64, first_step: u32) -> u64
+    requires { ⌜ (1 ≤ places) × (places ≤ 16) × (length (now row) ≡ 16) × («first_step» ≤ 40) ⌝ }
+    ensures { λ r. ⌜ (r ≡ neededBits (take places (now (row .entry))) smr «first_step») × (r ≤ 576 + «first_step») ⌝ }
+{
+    if smr <= 0.0 {
+        return 0;
+    }
+    let steps = needed_steps(row, places, smr);
+    (bitalloc::sample_bits_for(steps) + first_step) as u64
+}
+
+// The steps at the first place above 0 whose signal-to-noise ratio reaches `smr`, or at the top place.
+fn needed_steps(row: &[u32; 16], places: usize, smr: f64) -> u32
+    requires { ⌜ (1 ≤ places) × (places ≤ 16) × (length (now row) ≡ 16) ⌝ }
+    ensures { λ r. ⌜ r ≡ neededSteps (take places (now (row .entry))) smr ⌝ }
+{
+    let top = places - 1;
+    let mut at: usize = 1;
+    while at < top {
+        let steps = row[at];
+        if reaches(steps, smr) {
+            return steps;
+        }
+        at = at + 1;
+    }
+    row[top]
+}
+
+// Whether the signal-to-noise ratio of a number of steps is at least `smr`.
+fn reaches(steps: u32, smr: f64) -> bool
+    ensures { λ r. ⌜ r ≡ le smr (snr steps) ⌝ }
+{
+    let ratio = snr_db(steps);
+    let OptionF64::Some(snr) = ratio else {
+        return false;
+    };
+    smr <= snr
+}
