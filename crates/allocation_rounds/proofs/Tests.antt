@@ -8,8 +8,7 @@ use borrow.Author.Tests.{le-leb, lt-leb}
 use lib.Dec.{ltb}
 use lib.ListN.{length, getD}
 use Rattle.allocation_rounds.specs.declared.Run.{Run}
-use Rattle.allocation_rounds.specs.Rounds.{Rules, placeIn, closedIn, waits, closeAt}
-use Rattle.allocation_rounds.specs.Answers.{raisedBy, takenBy}
+use Rattle.allocation_rounds.specs.Rounds.{Rules, placeIn, closedIn, waits, closeAt, raisedBy, takenBy}
 
 -- a flag that the list has
 pub flag : (closed : List Bool) (f : ℕ) → f < length closed → getD closed f false ≡ closedIn closed f

@@ -58,16 +58,23 @@ abbrev pub closeAt : ℕ → Run → Run
 closeAt f s = record { places = s .places; closed = set (s .closed) f true; left = s .left }
 
 -- else it rises by one place, and the price is taken
-abbrev pub raiseAt : Rules → ℕ → Run → Run
-raiseAt R f s = record {
+abbrev pub raisedBy : ℕ → ℕ → Run → Run
+raisedBy f cost s = record {
   places = set (s .places) f (placeIn (s .places) f + 1);
   closed = s .closed;
-  left = s .left - price R f (placeIn (s .places) f)
+  left = s .left - cost
 }
 
--- the candidate's turn
+-- a field's turn at a price
+abbrev pub takenBy : ℕ → ℕ → Run → Run
+takenBy f cost s = cond (leb cost (s .left)) (raisedBy f cost s) (closeAt f s)
+
+-- both at the price by the rules
+abbrev pub raiseAt : Rules → ℕ → Run → Run
+raiseAt R f s = raisedBy f (price R f (placeIn (s .places) f)) s
+
 abbrev pub taken : Rules → ℕ → Run → Run
-taken R f s = cond (leb (price R f (placeIn (s .places) f)) (s .left)) (raiseAt R f s) (closeAt f s)
+taken R f s = takenBy f (price R f (placeIn (s .places) f)) s
 
 -- a round: the candidate's turn; without one the run is over and nothing changes
 abbrev pub turn : Rules → Candidate → Run → Run

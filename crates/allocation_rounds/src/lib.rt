@@ -4,9 +4,9 @@ ghost use mathlib.Core.List.{[]};
 ghost use Prim.Native.Nat.{_+_, _*_, _≤_, _<_, min};
 ghost use lib.ListN.{length, getD};
 ghost use lib.Ieee.{nan};
-ghost use Rattle.allocation_rounds.specs.Rounds.{price, placeIn, closedIn, waits, consider, closeAt, round, ended, started};
+ghost use Rattle.allocation_rounds.specs.Rounds.{price, placeIn, closedIn, waits, consider, closeAt, round, ended, started, raisedBy, takenBy};
 ghost use Rattle.allocation_rounds.specs.Lent.{lent};
-ghost use Rattle.allocation_rounds.specs.Answers.{BestIs, Onward, raisedBy, takenBy};
+ghost use Rattle.allocation_rounds.specs.Answers.{BestIs, Onward};
 
 // The field whose turn it is, with its mask-to-noise ratio.
 pub enum Candidate {

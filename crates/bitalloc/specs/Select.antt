@@ -34,7 +34,7 @@ headings =
     ∷ heading B2d 32_000 (32 ∷ 48 ∷ []) false
     ∷ []
 
--- the bit rate per channel in whole kbit/s: half of the total for two channels, and nothing where that is odd
+-- the bit rate per channel in whole kbit/s: half of the total for two channels, and nothing where the total is odd
 unfoldable pub kbpsPerChannel : FrameHeader → Option ℕ
 kbpsPerChannel h =
     let total = h .«bit_rate» / 1000 in

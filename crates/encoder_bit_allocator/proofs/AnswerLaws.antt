@@ -15,7 +15,7 @@ use denote.Floats.{FloatOf, passes}
 use borrow.Author.Tests.{eq-eqb, le-leb, lt-leb}
 use Rattle.header.specs.declared.FrameHeader.{FrameHeader}
 use Rattle.header.specs.Questions.{Question, number}
-use Rattle.header.specs.Header.{slots}
+use Rattle.header.specs.Header.{frameBytes}
 use Rattle.bitalloc.specs.Tables.{sblimitOf}
 use Rattle.bitalloc.specs.Select.{tableOf}
 use Rattle.audio_data.specs.declared.AudioData.{AudioData}
@@ -86,11 +86,11 @@ module _ (h : FrameHeader) (banc : ℕ) where
   answered = refl
 
   asked-last : budgetOf h .answer ≡ 0 → number (allocationAsked h banc) ≡ number (last enough)
-  asked-last e = after-accepted (isSome (tableOf h)) (not (eqb (h .«sample_rate») 0)) (leb (slots h) 536_870_911) enough (sym answered ∙ e)
+  asked-last e = after-accepted (isSome (tableOf h)) (not (eqb (h .«sample_rate») 0)) (leb (frameBytes h) 536_870_911) enough (sym answered ∙ e)
 
   asked-first : eqb (budgetOf h .answer) 0 ≡ false → (number (allocationAsked h banc) ≡ budgetOf h .answer) × (eqb (budgetOf h .answer) 4 ≡ false)
   asked-first e =
-      let q = after-refused (isSome (tableOf h)) (not (eqb (h .«sample_rate») 0)) (leb (slots h) 536_870_911) enough (rw answered at e) in
+      let q = after-refused (isSome (tableOf h)) (not (eqb (h .«sample_rate») 0)) (leb (frameBytes h) 536_870_911) enough (rw answered at e) in
       (q .0 ∙ sym answered, rw answered (q .1))
 
 -- ---- the answers

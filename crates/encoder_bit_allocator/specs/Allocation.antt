@@ -56,7 +56,7 @@ bitsAsked h banc =
 abbrev pub allocationAsked : FrameHeader → ℕ → List Question
 allocationAsked h banc = headerAsked h ++ (bitsAsked h banc ∷ [])
 
--- where the rounds end that are fed with the header, the caller's bits and the ratios
+-- where the rounds end over a header's fields, with these ratios and bits offered
 unfoldable pub runOf : FrameHeader → BitAllocTable → List (List Float) → ℕ → Run
 unfolding rulesOf entriesOf
 runOf h t smr offered = ended (rulesOf (entriesOf h t smr)) (started offered)
@@ -101,7 +101,7 @@ allocationOf h smr banc =
     let b = budgetOf h .budget in
     cond (eqb n 0) (accepted h b smr banc) (cond (eqb n 4) (insufficient b banc) (refused n))
 
--- ---- what an accepted allocation is worth, said of its steps and of the bits left alone
+-- ---- what an accepted allocation is worth, said of its steps and of the bits left
 
 -- the steps that a field holds: those of the slot of its first channel
 abbrev pub fieldSteps : List ℕ → Field → ℕ
@@ -124,21 +124,26 @@ NoNan fields smr =
     (f ch : ℕ) → f < length fields → T (oneOf (fieldIn fields f .channels) ch) → isNan (smrAt smr ch (fieldIn fields f .subband)) ≡ false
 
 -- The five parts: the rounds end there; charged and left make up what was offered; no affordable step is untaken; the exchange rule;
--- and the steps lie where the fields are.
+-- and the steps lie where the fields are. The places in 2 to 4 are read off the steps; `inRow` says that they are the places of the steps.
 pub record Worth (h : FrameHeader) (t : BitAllocTable) (smr : List (List Float)) (offered : ℕ) (steps : List ℕ) (left : ℕ) : Type 0 where
+  -- 1
   pub ends : steps ≡ stepsOf (fieldsOf h t) t (runOf h t smr offered .places)
   pub leaves : left ≡ runOf h t smr offered .left
   pub over : Over (rulesOf (entriesOf h t smr)) (runOf h t smr offered)
+  -- 2
   pub accounted : Accounted (rulesOf (entriesOf h t smr)) offered (placesFrom (fieldsOf h t) t steps) left
+  -- 3
   pub spent : Spent (rulesOf (entriesOf h t smr)) (placesFrom (fieldsOf h t) t steps) left
+  -- 4
   pub exchanged : NoNan (fieldsOf h t) smr → Exchanged (rulesOf (entriesOf h t smr)) (placesFrom (fieldsOf h t) t steps) left
+  -- 5; scfsi and scalefactor indices are the filler by `accepted`
   pub inRow : (f : ℕ) → f < length (fieldsOf h t)
     → getD (rowOf t (fieldIn (fieldsOf h t) f .subband)) (placeIn (placesFrom (fieldsOf h t) t steps) f) 0 ≡ fieldSteps steps (fieldIn (fieldsOf h t) f)
   pub both : (f ch : ℕ) → f < length (fieldsOf h t) → T (oneOf (fieldIn (fieldsOf h t) f .channels) ch)
     → getD steps (32 * ch + fieldIn (fieldsOf h t) f .subband) 0 ≡ fieldSteps steps (fieldIn (fieldsOf h t) f)
   pub elsewhere : (ch sb : ℕ) → ch < 2 → sb < 32 → place (serves ch sb) (fieldsOf h t) ≡ none → getD steps (32 * ch + sb) 0 ≡ 0
 
--- what `allocate_bits` promises
+-- what `allocate_bits` promises; where it accepts, question 4 has made the bits offered a difference that does not fall below 0
 pub record AllocationIs (h : FrameHeader) (smr : List (List Float)) (banc : ℕ) (r : Allocation) : Type 0 where
   pub whole : r ≡ allocationOf h smr banc
   pub worth : r .number ≡ 0

@@ -28,7 +28,7 @@ slotRatio steps smr = cond (eqb steps 0) (neg smr) (sub binary64 (snr steps) smr
 
 -- the smaller of the ratios of the channels served; a NaN beside a number yields the number
 abbrev pub least : List Float → Float
-least [] = nan
+least [] = nan  -- no field serves none
 least (r ∷ []) = r
 least (r ∷ s ∷ rs) = minOf r (least (s ∷ rs))
 

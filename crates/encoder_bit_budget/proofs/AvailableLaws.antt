@@ -1,8 +1,6 @@
 -- The offered bits: the code's signed difference is the definition's, and each answer follows from the budget's.
 use mathlib.Core.Path.{_≡_, refl, sym, ap, ap₂, _∙_, subst}
 use mathlib.Core.Bool.{Bool, true, false, cond}
-use mathlib.Core.List.{[], _∷_}
-use mathlib.Core.Logic.{⊎-elim}
 use Prim.Native.Nat.{ℕ, zero, suc, _+_, _-_, _^_, _<_, zero-le}
 use native.Mathlib.Omega.{arith}
 use lib.Dec.{eqb, ltb, leb}
@@ -11,16 +9,13 @@ use lib.Ieee.{minus}
 use mir.Syntax.{w64}
 use mir.Val.{SFits, toZ, ofZ}
 use mir.Facts.{toZ-pos, toZ-ofZ}
-use types.Run.{OneOf}
-use denote.Enum.Declared.{tagOf}
 use borrow.Author.Tests.{le-leb, leb-true, leb-false, ltb-true, ltb-false}
 use Rattle.header.specs.declared.FrameHeader.{FrameHeader}
 use Rattle.encoder_bit_budget.specs.declared.FixedBitBudget.{FixedBitBudget}
 use Rattle.encoder_bit_budget.specs.declared.Budget.{Budget}
-use Rattle.encoder_bit_budget.specs.declared.Budget.the-variants.{Ok, NoBitallocTable, ZeroSampleRate, FrameTooLarge}
+use Rattle.encoder_bit_budget.specs.declared.Budget.the-variants.{Ok}
 use Rattle.encoder_bit_budget.specs.declared.AvailableBits.{AvailableBits}
 use Rattle.encoder_bit_budget.specs.Budget.{BudgetAnswer, budgetIn, budgetOf, fixedIn, offeredIn, availableOf}
-use Rattle.encoder_bit_budget.proofs.Budget.{the-type}
 
 -- ---- a difference below 0 too
 
@@ -53,13 +48,6 @@ module _ (a b : ℕ) (ha : a < 2 ^ 63) (hb : b < 2 ^ 63) where
   signed = toZ-ofZ signed-fits ∙ read
 
 -- ---- the answers
-
--- a refused budget's number is not 0
-pub refused : (r : Budget) → OneOf (1 ∷ 2 ∷ 3 ∷ []) (tagOf the-type r) → eqb (budgetIn r .answer) 0 ≡ false
-refused (Ok b) h = absurd (⊎-elim (λ e. omega arith) (⊎-elim (λ e. omega arith) (λ e. omega arith)) h)
-refused NoBitallocTable h = refl
-refused ZeroSampleRate h = refl
-refused FrameTooLarge h = refl
 
 -- what the definition makes of the budget's answer
 abbrev availableIn : BudgetAnswer → ℕ → AvailableBits

@@ -1,23 +1,25 @@
 -- Each answer of the budget from what the questions found, and the bounds of an accepted one.
 use mathlib.Core.Path.{_≡_, refl, sym, ap, ap₂, _∙_, subst}
-use mathlib.Core.Bool.{Bool, true, false, not, cond}
+use mathlib.Core.Bool.{Bool, true, false, cond}
 use mathlib.Core.List.{[], _∷_}
+use mathlib.Core.Logic.{⊎-elim}
 use mathlib.Core.Option.{Option, none, some}
-use Prim.Native.Nat.{ℕ, zero, suc, _+_, _*_, _≤_, _<_, min}
+use Prim.Native.Nat.{ℕ, zero, suc, _*_, _≤_, _<_}
 use native.Mathlib.Nat.{mul-le-mul-right}
 use native.Mathlib.Omega.{arith}
-use lib.Dec.{eqb, ltb, leb, lit≤}
-use lib.ListN.{length}
+use lib.Dec.{eqb, lit≤}
+use types.Run.{OneOf}
+use denote.Enum.Declared.{tagOf}
 use borrow.Author.Tests.{le-leb, lt-leb}
 use Rattle.header.specs.declared.FrameHeader.{FrameHeader}
 use Rattle.header.specs.declared.Mode.{Mode}
 use Rattle.header.specs.declared.Mode.the-variants.{Stereo, JointStereo, DualChannel, SingleChannel}
 use Rattle.header.specs.declared.FrameSize.the-variants as Size
 use Rattle.header.specs.Questions.{number}
-use Rattle.header.specs.Header.{channelsOf, boundOf, slots, sizeOf, frameSize, sampleRateAsked, whereAccepted}
+use Rattle.header.specs.Header.{channelsOf, boundOf, frameBytes, sizeOf, frameSize}
 use Rattle.bitalloc.specs.declared.BitAllocTable.{BitAllocTable}
 use Rattle.bitalloc.specs.declared.BitAllocTable.the-variants.{B2a, B2b, B2c, B2d, B1Lsf}
-use Rattle.bitalloc.specs.Tables.{nbalOf, sblimitOf, sumBelow, ranges}
+use Rattle.bitalloc.specs.Tables.{nbalOf, sblimitOf, sumBelow}
 use Rattle.bitalloc.specs.Select.{tableOf}
 use Rattle.bitalloc.proofs.RowLaws.{sblimit-small}
 use Rattle.encoder_bit_budget.specs.declared.FixedBitBudget.{FixedBitBudget}
@@ -25,15 +27,16 @@ use Rattle.encoder_bit_budget.specs.declared.Budget.{Budget}
 use Rattle.encoder_bit_budget.specs.declared.Budget.the-variants.{Ok, NoBitallocTable, ZeroSampleRate, FrameTooLarge}
 use Rattle.encoder_bit_budget.specs.Layout.{fieldsAt, fieldsBelow, fieldsOf, sharedFrom, boundIn, sumOver}
 use Rattle.encoder_bit_budget.specs.Budget.{cbOf, budgetIn, budgetOf, budgetUnder, headerAsked, acceptedUnder, allocationBits, crcBits, Bounded, BudgetIs}
-use Rattle.encoder_bit_budget.proofs.FieldLaws.{fieldsBy, sum-append, counted}
+use Rattle.encoder_bit_budget.proofs.Budget.{the-type}
+use Rattle.encoder_bit_budget.proofs.FieldLaws.{sum-append, few, counted}
 
 -- ---- what the frame's size tells
 
-pub sized : (h : FrameHeader) (n : ℕ) → sizeOf (Size.Bytes n) ≡ frameSize h → (eqb (h .«sample_rate») 0 ≡ false) × (n ≡ slots h)
+pub sized : (h : FrameHeader) (n : ℕ) → sizeOf (Size.Bytes n) ≡ frameSize h → (eqb (h .«sample_rate») 0 ≡ false) × (n ≡ frameBytes h)
 unfolding frameSize
 sized h n e = go (eqb (h .«sample_rate») 0) refl
   where
-    go : (b : Bool) → eqb (h .«sample_rate») 0 ≡ b → (eqb (h .«sample_rate») 0 ≡ false) × (n ≡ slots h)
+    go : (b : Bool) → eqb (h .«sample_rate») 0 ≡ b → (eqb (h .«sample_rate») 0 ≡ false) × (n ≡ frameBytes h)
     go true p = let z = ap (λ s. s .answer) e in absurd (omega (arith, rw p at z))
     go false p = (p, rw p at (ap (λ s. s .bytes) e))
 
@@ -46,15 +49,6 @@ not-sized h e = go (eqb (h .«sample_rate») 0) refl
     go false p = let z = ap (λ s. s .answer) e in absurd (omega (arith, rw p at z))
 
 -- ---- the bounds of an accepted budget
-
-few : (bound channels sb : ℕ) → length (fieldsAt bound channels sb) ≤ 2
-few bound channels sb = go (ltb sb bound) (eqb channels 1)
-  where
-    go : (own one : Bool) → length (fieldsBy own one sb) ≤ 2
-    go true true = lit≤ tt
-    go true false = lit≤ tt
-    go false true = lit≤ tt
-    go false false = lit≤ tt
 
 -- each subband's width is counted twice at most
 twice : (t : BitAllocTable) (bound channels n : ℕ)
@@ -96,7 +90,7 @@ channels-small JointStereo = lit≤ tt
 channels-small DualChannel = lit≤ tt
 channels-small SingleChannel = lit≤ tt
 
-bounds : (h : FrameHeader) (t : BitAllocTable) → slots h ≤ 536_870_911 → Bounded (budgetUnder h t)
+bounds : (h : FrameHeader) (t : BitAllocTable) → frameBytes h ≤ 536_870_911 → Bounded (budgetUnder h t)
 unfolding budgetUnder
 bounds h t l = record {
   cb = omega arith;
@@ -120,14 +114,14 @@ module _ (h : FrameHeader) (t : BitAllocTable) (named : tableOf h ≡ some t) wh
   unfolding budgetOf
   refused-rate e = record { whole = rw (named, e); bounded = no-budget ZeroSampleRate 1 refl }
 
-  pub refused-size : eqb (h .«sample_rate») 0 ≡ false → 536_870_911 < slots h → BudgetIs h FrameTooLarge
+  pub refused-size : eqb (h .«sample_rate») 0 ≡ false → 536_870_911 < frameBytes h → BudgetIs h FrameTooLarge
   unfolding budgetOf
-  refused-size e l = record { whole = rw (named, e, lt-leb (slots h) 536_870_911 l); bounded = no-budget FrameTooLarge 2 refl }
+  refused-size e l = record { whole = rw (named, e, lt-leb (frameBytes h) 536_870_911 l); bounded = no-budget FrameTooLarge 2 refl }
 
-  pub accepted : (b : FixedBitBudget) → eqb (h .«sample_rate») 0 ≡ false → slots h ≤ 536_870_911 → b ≡ budgetUnder h t → BudgetIs h (Ok b)
+  pub accepted : (b : FixedBitBudget) → eqb (h .«sample_rate») 0 ≡ false → frameBytes h ≤ 536_870_911 → b ≡ budgetUnder h t → BudgetIs h (Ok b)
   unfolding budgetOf
   accepted b e l p = record {
-    whole = rw (named, e, le-leb (slots h) 536_870_911 l, p);
+    whole = rw (named, e, le-leb (frameBytes h) 536_870_911 l, p);
     bounded = λ d q. subst Bounded (sym p ∙ held q) (bounds h t l)
   }
     where
@@ -153,8 +147,16 @@ module _ (h : FrameHeader) (t : BitAllocTable) (named : tableOf h ≡ some t) wh
         table = table i
       }
 
--- ---- an accepted budget is the one under its own table
+-- ---- what an entry that calls for the budget learns
 
+-- a refused budget's number is not 0
+pub refused : (r : Budget) → OneOf (1 ∷ 2 ∷ 3 ∷ []) (tagOf the-type r) → eqb (budgetIn r .answer) 0 ≡ false
+refused (Ok b) h = absurd (⊎-elim (λ e. omega arith) (⊎-elim (λ e. omega arith) (λ e. omega arith)) h)
+refused NoBitallocTable h = refl
+refused ZeroSampleRate h = refl
+refused FrameTooLarge h = refl
+
+-- an accepted budget is the one under its own table
 pub accepted-is : (h : FrameHeader) (b : FixedBitBudget) → budgetIn (Ok b) ≡ budgetOf h → b ≡ budgetUnder h (b .table)
 unfolding budgetOf
 accepted-is h b e = go (tableOf h) refl

@@ -1,4 +1,4 @@
--- What the search along the first places of a row finds: the definition's steps for a ratio.
+-- What `demand_bits` finds on its way is the definition's: the steps that a ratio needs, a field's bits, a subband's row and fields, the answer.
 use mathlib.Core.Path.{_≡_, refl, sym, ap, ap₂, _∙_}
 use mathlib.Core.Bool.{Bool, true, false, cond}
 use mathlib.Core.List.{List}
@@ -28,12 +28,14 @@ use Rattle.encoder_bit_budget.specs.declared.FixedBitBudget.{FixedBitBud
 use Rattle.encoder_bit_budget.specs.declared.Budget.{Budget}
 use Rattle.encoder_bit_budget.specs.declared.Budget.the-variants.{Ok}
 use Rattle.encoder_bit_budget.specs.declared.DemandBits.{DemandBits}
-use Rattle.encoder_bit_budget.specs.Budget.{BudgetAnswer, budgetIn, budgetOf, budgetUnder}
+use Rattle.encoder_bit_budget.specs.Budget.{BudgetAnswer, budgetIn, budgetOf}
 use Rattle.encoder_bit_budget.specs.Snr.{snr}
 use Rattle.encoder_bit_budget.specs.Demand.{neededSteps, neededBits, orTop, smrAt, fieldDemand, demandUnder, demandOf, DemandIs}
 use Rattle.encoder_bit_budget.specs.Layout.{fieldsAt, fieldsBelow, fieldsOf, sumOver}
 use Rattle.encoder_bit_budget.proofs.FieldLaws.{fieldsBy}
 use Rattle.encoder_bit_budget.proofs.BudgetLaws.{accepted-is}
+
+-- ---- the steps that a ratio needs, by a search along the first places of a row
 
 -- no place above 0 and below `at` reaches the ratio
 abbrev pub Passed : List ℕ → Float → ℕ → Type 0

@@ -5,9 +5,9 @@ use mathlib.Core.List.{List, [], _∷_, _++_, map}
 use Prim.Native.Nat.{ℕ, _+_, _*_, _≤_}
 use native.Mathlib.Numerals.{add-one}
 use native.Mathlib.Omega.{arith}
-use lib.Dec.{ltb, eqb}
+use lib.Dec.{ltb, eqb, lit≤}
 use lib.ListN.{length}
-use Rattle.encoder_bit_budget.specs.Layout.{Field, channelList, fieldsAt, fieldsBelow, sumOver}
+use Rattle.encoder_bit_budget.specs.Layout.{Field, fieldsAt, fieldsBelow, sumOver}
 
 pub sum-append : (f : Field → ℕ) (xs ys : List Field) → sumOver f (xs ++ ys) ≡ sumOver f xs + sumOver f ys
 sum-append f [] ys = omega arith
@@ -42,3 +42,13 @@ counted g bound channels sb = go (ltb sb bound) (eqb channels 1)
     go true false = omega arith
     go false true = omega arith
     go false false = omega arith
+
+-- a subband has two at most
+pub few : (bound channels sb : ℕ) → length (fieldsAt bound channels sb) ≤ 2
+few bound channels sb = go (ltb sb bound) (eqb channels 1)
+  where
+    go : (own one : Bool) → length (fieldsBy own one sb) ≤ 2
+    go true true = lit≤ tt
+    go true false = lit≤ tt
+    go false true = lit≤ tt
+    go false false = lit≤ tt

@@ -1,17 +1,17 @@
 -- Every number of a row is in Table C.5, above place 0 in Table 3-B.4 too, by a test that antt computes over the rows; so along a row the
 -- ratios and the sample bits rise.
-use mathlib.Core.Path.{_≡_, refl, sym, ap, _∙_, subst, subst₂}
+use mathlib.Core.Path.{_≡_, refl, sym, ap, _∙_, subst}
 use mathlib.Core.Bool.{Bool, true, false, not, _&&_, _||_}
 use mathlib.Core.List.{List, [], _∷_}
 use mathlib.Core.Logic.{⊎-elim}
 use mathlib.Core.Option.{Option, none, some}
-use Prim.Native.Nat.{ℕ, zero, suc, _+_, _*_, _/_, _≤_, _<_}
+use Prim.Native.Nat.{ℕ, zero, suc, _≤_, _<_}
 use native.Mathlib.Decide.{decLt}
 use native.Mathlib.Nat.{not-suc-le-zero, le-of-suc-le-suc, zero-lt-suc, eq-or-lt-of-le, le-of-eq, le-of-lt}
 use native.Mathlib.Omega.{arith}
 use lib.Dec.{T, eqb, ltb, ltb→lt}
 use lib.ListN.{length, getD, drop}
-use lib.Ieee.{Float, lt, le}
+use lib.Ieee.{lt, le}
 use borrow.Author.Tests.{lt-ltb, eqb-true}
 use Rattle.tables.specs.Search.{oneOf}
 use Rattle.tables.proofs.Rule.{first, second, all, all-at, allBelow, below}
@@ -22,9 +22,9 @@ use Rattle.bitalloc.specs.declared.QuantClass.{QuantClass}
 use Rattle.bitalloc.specs.Tables.{rowOf, sblimitOf}
 use Rattle.bitalloc.specs.Classes.{classes, classOf, sampleBits, frameBits}
 use Rattle.bitalloc.proofs.RowLaws.{row-rule, no-row}
-use Rattle.encoder_bit_budget.specs.Snr.{ratios, snrOf, snr, orNan}
+use Rattle.encoder_bit_budget.specs.Snr.{RatioRule, snrOf, snr, orNan}
 use Rattle.encoder_bit_budget.specs.Budget.{isSome}
-use Rattle.encoder_bit_budget.proofs.SnrLaws.{keys, RatioRule, ratio-rule, ratio-rises, ratio-le}
+use Rattle.encoder_bit_budget.proofs.SnrLaws.{keys, ratio-rule, ratio-rises, ratio-le}
 
 -- ---- the numbers of a row
 
@@ -43,13 +43,19 @@ computed B2c = tt
 computed B2d = tt
 computed B1Lsf = tt
 
+-- what holds of each row below sblimit, and of no row, holds of every row
+module _ (P : List ℕ → Type 0) (t : BitAllocTable) (sb : ℕ) (carried : sb < sblimitOf t → P (rowOf t sb)) (no-place : P []) where
+  everywhere : P (rowOf t sb)
+  everywhere = go (decLt sb (sblimitOf t))
+    where
+      go : Dec (sb < sblimitOf t) → P (rowOf t sb)
+      go (yes h) = carried h
+      go (no h) = rw (no-row t sb (omega arith)) no-place
+
 row-keyed : (t : BitAllocTable) (sb : ℕ) → T (keyed (rowOf t sb))
 unfolding keyed
-row-keyed t sb = go (decLt sb (sblimitOf t))
-  where
-    go : Dec (sb < sblimitOf t) → T (keyed (rowOf t sb))
-    go (yes h) = below (sblimitOf t) (λ sb. keyed (rowOf t sb)) (computed t) sb h
-    go (no h) = rw (no-row t sb (omega arith)) tt
+row-keyed t sb =
+    everywhere (λ row. T (keyed row)) t sb (below (sblimitOf t) (λ sb. keyed (rowOf t sb)) (computed t) sb) tt
 
 -- what a test says of each number of a list it says of one that is in it
 of-member : (p : ℕ → Bool) (ks : List ℕ) (n : ℕ) → T (all p ks) → T (oneOf ks n) → T (p n)
@@ -90,11 +96,9 @@ pub row-ratio-rule : (t : BitAllocTable) (sb i : ℕ) → RatioRule (snr (getD (
 row-ratio-rule t sb i = ratio-rule (getD (rowOf t sb) i 0) (snr (getD (rowOf t sb) i 0)) (row-ratio t sb i)
 
 row-rises : (t : BitAllocTable) (sb i j : ℕ) → i < j → j < length (rowOf t sb) → getD (rowOf t sb) i 0 < getD (rowOf t sb) j 0
-row-rises t sb i j l h = go (decLt sb (sblimitOf t))
-  where
-    go : Dec (sb < sblimitOf t) → getD (rowOf t sb) i 0 < getD (rowOf t sb) j 0
-    go (yes c) = row-rule t sb c .rising i j l h
-    go (no c) = absurd (not-suc-le-zero (rw (no-row t sb (omega arith)) at h))
+row-rises t sb =
+    everywhere (λ row. (i j : ℕ) → i < j → j < length row → getD row i 0 < getD row j 0) t sb
+    (λ h. row-rule t sb h .rising) (λ i j l h. absurd (not-suc-le-zero h))
 
 row-steps-le : (t : BitAllocTable) (sb i j : ℕ) → i ≤ j → j < length (rowOf t sb) → getD (rowOf t sb) i 0 ≤ getD (rowOf t sb) j 0
 row-steps-le t sb i j l h =
@@ -160,22 +164,19 @@ no-bits : sampleBits 0 ≡ 0
 unfolding sampleBits
 no-bits = refl
 
-first-place : (t : BitAllocTable) (sb : ℕ) → 0 < length (rowOf t sb) → getD (rowOf t sb) 0 0 ≡ 0
-first-place t sb h = go (decLt sb (sblimitOf t))
+first-place : (t : BitAllocTable) (sb : ℕ) → getD (rowOf t sb) 0 0 ≡ 0
+first-place t sb = everywhere (λ row. getD row 0 0 ≡ 0) t sb (λ h. same (rowOf t sb) (row-rule t sb h .zeroth)) refl
   where
     same : (row : List ℕ) → getD row 0 1 ≡ 0 → getD row 0 0 ≡ 0
     same [] e = refl
     same (x ∷ row) e = e
-    go : Dec (sb < sblimitOf t) → getD (rowOf t sb) 0 0 ≡ 0
-    go (yes c) = same (rowOf t sb) (row-rule t sb c .zeroth)
-    go (no c) = absurd (not-suc-le-zero (rw (no-row t sb (omega arith)) at h))
 
 pub row-bits-rise : (t : BitAllocTable) (sb i j : ℕ) → i < j → j < length (rowOf t sb)
   → sampleBits (getD (rowOf t sb) i 0) < sampleBits (getD (rowOf t sb) j 0)
 row-bits-rise t sb zero j l h =
     let n = getD (rowOf t sb) j 0 in
     let q = row-class t sb j l h in
-    rw (first-place t sb (omega arith), no-bits, bits-of n (q .0) (q .1)) (class-costs n n (q .0) (q .0) (q .1) (q .1) .0)
+    rw (first-place t sb, no-bits, bits-of n (q .0) (q .1)) (class-costs n n (q .0) (q .0) (q .1) (q .1) .0)
 row-bits-rise t sb (suc i) j l h =
     let m = getD (rowOf t sb) (suc i) 0 in
     let n = getD (rowOf t sb) j 0 in

@@ -1,13 +1,13 @@
 -- Table C.5: what each ratio is, that the ratios rise with the steps, and which steps are not in it, each by one test that antt computes.
 use mathlib.Core.Path.{_≡_, refl, sym, ap, _∙_, subst, subst₂}
-use mathlib.Core.Bool.{Bool, true, false, not, _&&_, _||_}
+use mathlib.Core.Bool.{Bool, false, not, _&&_, _||_}
 use mathlib.Core.Logic.{⊎-elim}
 use mathlib.Core.List.{List, [], _∷_}
 use mathlib.Core.Option.{Option, none, some, Option·map, Option·none-ne-some, Option·some-injective}
 use Prim.Native.Nat.{ℕ, _≤_, _<_}
 use native.Mathlib.Nat.{eq-or-lt-of-le}
 use lib.Dec.{T, ltb, eqb}
-use lib.Ieee.{Float, nan, inf, fin, binary64, lt, le, fits, isNan}
+use lib.Ieee.{Float, nan, inf, fin, binary64, lt, le, fits}
 use lib.Ieee.Scale.{finite}
 use lib.IntN.{pos}
 use borrow.Author.Tests.{lt-ltb, ne-eqb, eqb-true}
@@ -15,7 +15,7 @@ use Rattle.tables.specs.Search.{find, oneOf, entryAt}
 use Rattle.tables.proofs.Rule.{first, second, all}
 use Rattle.tables.proofs.Search.{find-passes, none-passes}
 use Rattle.ieee_order.proofs.Order.{finite-number, float-lt-le, float-refl}
-use Rattle.encoder_bit_budget.specs.Snr.{Ratio, ratios, snrOf, snr, orNan}
+use Rattle.encoder_bit_budget.specs.Snr.{Ratio, RatioRule, ratios, snrOf}
 
 -- what a found ratio was found in
 of-row : (o : Option Ratio) (x : Float) → Option·map (λ r. r .db) o ≡ some x → (r : Ratio) × (o ≡ some r) × (r .db ≡ x)
@@ -30,13 +30,7 @@ row-of p steps x t e =
     let g = find-passes (λ r. eqb (r .steps) steps) p ratios (r .0) t (r .1) in
     subst₂ (λ (s : ℕ) (y : Float). T (p (record { steps = s; db = y }))) (eqb-true _ _ (g .0)) (r .2) (g .1)
 
--- ---- each ratio is a number of binary64, at least 0
-
-pub record RatioRule (x : Float) : Type 0 where
-  pub number : isNan x ≡ false
-  pub finite : T (finite x)
-  pub fits : T (fits binary64 x)
-  pub least : T (le (fin false 0 (pos 0)) x)
+-- ---- the rule of every ratio
 
 sound : Ratio → Bool
 sound r = finite (r .db) && (fits binary64 (r .db) && le (fin false 0 (pos 0)) (r .db))

@@ -9,7 +9,7 @@ use lib.IntN.{ℤ, pos}
 use lib.Ieee.{minus}
 use Rattle.header.specs.declared.FrameHeader.{FrameHeader}
 use Rattle.header.specs.Questions.{Question, number}
-use Rattle.header.specs.Header.{channelsOf, slots, sampleRateAsked}
+use Rattle.header.specs.Header.{channelsOf, frameBytes, sampleRateAsked}
 use Rattle.bitalloc.specs.declared.BitAllocTable.{BitAllocTable}
 use Rattle.bitalloc.specs.declared.BitAllocTable.the-variants.{B2a}
 use Rattle.bitalloc.specs.Tables.{sblimitOf, nbalOf}
@@ -32,7 +32,7 @@ tableAsked h = record { yes = isSome (tableOf h); otherwise = 1 }
 
 -- question 3: the frame's bits fit 32 bits
 abbrev pub sizeAsked : FrameHeader → Question
-sizeAsked h = record { yes = leb (slots h) 536_870_911; otherwise = 3 }
+sizeAsked h = record { yes = leb (frameBytes h) 536_870_911; otherwise = 3 }
 
 abbrev pub headerAsked : FrameHeader → List Question
 headerAsked h = tableAsked h ∷ sampleRateAsked h ∷ sizeAsked h ∷ []
@@ -41,7 +41,7 @@ headerAsked h = tableAsked h ∷ sampleRateAsked h ∷ sizeAsked h ∷ []
 
 -- the bits of the frame
 abbrev pub cbOf : FrameHeader → ℕ
-cbOf h = 8 * slots h
+cbOf h = 8 * frameBytes h
 
 -- the CRC's bits: protection_bit false says that it is there
 abbrev pub crcBits : FrameHeader → ℕ
@@ -88,7 +88,7 @@ budgetIn FrameTooLarge = record { answer = 3; budget = noBudget }
 -- under a number, the budget with the table that was selected
 abbrev pub acceptedUnder : FrameHeader → ℕ → Option BitAllocTable → FixedBitBudget
 acceptedUnder h zero (some t) = budgetUnder h t
-acceptedUnder h zero none = noBudget
+acceptedUnder h zero none = noBudget  -- question 1 has asked for a table
 acceptedUnder h (suc n) o = noBudget
 
 unfoldable pub budgetOf : FrameHeader → BudgetAnswer

@@ -1,25 +1,24 @@
--- The demand: the data bits with which every field has a mask-to-noise ratio of at least 0 (ISO/IEC 11172-3 Annex G.1, required bit rate).
+-- The demand: the data bits with which every field has a mask-to-noise ratio of at least 0, or stands at its top place (ISO/IEC 11172-3
+-- Annex G.1, required bit rate).
 use Prim.Native.Nat.{ℕ, _+_, _-_, _*_, _≤_}
 use mathlib.Core.Path.{_≡_}
-use mathlib.Core.Bool.{cond}
+use mathlib.Core.Bool.{false, cond}
 use mathlib.Core.List.{List, [], _∷_, map}
 use mathlib.Core.Option.{Option, none, some}
 use lib.Dec.{eqb}
 use lib.Ieee.{Float, nan, fin, le}
 use lib.IntN.{pos}
 use lib.ListN.{length, getD, drop}
-use mathlib.Core.Bool.{false}
 use Rattle.ieee_order.specs.Order.{maxOf}
 use Rattle.header.specs.declared.FrameHeader.{FrameHeader}
 use Rattle.bitalloc.specs.declared.BitAllocTable.{BitAllocTable}
 use Rattle.bitalloc.specs.Tables.{rowOf}
 use Rattle.bitalloc.specs.Classes.{sampleBits}
-use Rattle.bitalloc.specs.Select.{tableOf}
 use Rattle.tables.specs.Search.{find}
 use Rattle.encoder_bit_budget.specs.declared.DemandBits.{DemandBits}
 use Rattle.encoder_bit_budget.specs.Snr.{snr}
 use Rattle.encoder_bit_budget.specs.Layout.{Field, fieldsOf, sumOver}
-use Rattle.encoder_bit_budget.specs.Budget.{headerAsked, budgetOf}
+use Rattle.encoder_bit_budget.specs.Budget.{budgetOf}
 
 -- The signal-to-mask ratios are two rows of 32, in dB; a slot's is at its channel and subband.
 abbrev pub smrAt : List (List Float) → ℕ → ℕ → Float
@@ -31,7 +30,7 @@ firstStep x = 20 * length (x .channels)
 
 -- the larger of the ratios of the channels that a field serves; a NaN beside a number yields the number
 abbrev pub most : List Float → Float
-most [] = nan
+most [] = nan  -- no field serves none
 most (r ∷ []) = r
 most (r ∷ s ∷ rs) = maxOf r (most (s ∷ rs))
 

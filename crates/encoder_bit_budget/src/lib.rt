@@ -72,11 +72,11 @@ impl FixedBitBudget {
     // The CRC of 2.4.1.4.
     pub const CRC_BITS: u32 = 16;
 
-    // What a channel's first step in a subband costs besides the samples: the scfsi, of 2 bits, and the most scalefactors that it can
-    // announce, three of 6 bits.
+    // What the first step of a channel in a subband costs besides its samples: 2 bits of scfsi and three scalefactors of 6 bits. Which of
+    // the three are sent is decided after the allocation, so all are counted.
     pub const FIRST_STEP_BITS: u32 = 20;
 
-    // The bits of the header, the CRC and the allocation fields.
+    // The bits of the header, the CRC and the allocation fields. A budget that no header has may hold any numbers: their sum has 64 bits.
     pub fn fixed(self) -> u64
         ensures { λ r. ⌜ r ≡ fixedIn self ⌝ }
     {
@@ -118,6 +118,7 @@ pub fn fixed_bit_budget(header: FrameHeader) -> Budget
     let FrameSize::Bytes(bytes) = size else {
         return Budget::ZeroSampleRate;
     };
+    // From 536,870,912 bytes on the frame's bits do not fit 32 bits.
     if 536_870_911 < bytes {
         return Budget::FrameTooLarge;
     }
@@ -215,7 +216,8 @@ pub struct DemandBits {
     pub bits: u64,
 }
 
-// The data bits with which every allocation field has a mask-to-noise ratio of at least 0 dB (Annex G.1, required bit rate).
+// The data bits with which every allocation field has a mask-to-noise ratio of at least 0 dB or stands at its top place (Annex G.1, required
+// bit rate).
 pub fn demand_bits(header: FrameHeader, smr_db: [[f64; 32]; 2]) -> DemandBits
     ensures { λ r. ⌜ DemandIs header «smr_db» r ⌝ }
 {
@@ -237,23 +239,24 @@ pub fn demand_bits(header: FrameHeader, smr_db: [[f64; 32]; 2]) -> DemandBits
     DemandBits { number: 0, bits }
 }
 
-// The demand of a subband's fields: each channel's own below the bound, and one for both from there on.
+// The demand of a subband's fields: below the bound each channel's own, from there on one for both, which pays its samples once and the
+// first step of each channel.
 fn subband_demand(table: BitAllocTable, bound: usize, channels: usize, sb: usize, smr_db: &[[f64; 32]; 2]) -> u64
     requires { ⌜ sb < sblimitOf table ⌝ }
     ensures { λ r. ⌜ (r ≡ sumOver (fieldDemand table (now («smr_db» .entry))) (fieldsAt bound channels sb)) × (r ≤ 1232) ⌝ }
 {
     let row = table.row(sb);
     let places = 1 << table.nbal(sb);
-    let left = smr_db[0][sb];
-    let once = FixedBitBudget::FIRST_STEP_BITS;
+    let first_step = FixedBitBudget::FIRST_STEP_BITS;
+    let smr0 = smr_db[0][sb];
     if channels == 1 {
-        return needed_bits(&row, places, left, once);
+        return needed_bits(&row, places, smr0, first_step);
     }
-    let right = smr_db[1][sb];
+    let smr1 = smr_db[1][sb];
     if sb < bound {
-        needed_bits(&row, places, left, once) + needed_bits(&row, places, right, once)
+        needed_bits(&row, places, smr0, first_step) + needed_bits(&row, places, smr1, first_step)
     } else {
-        needed_bits(&row, places, ieee_order::max(left, right), 2 * once)
+        needed_bits(&row, places, ieee_order::max(smr0, smr1), 2 * first_step)
     }
 }
 

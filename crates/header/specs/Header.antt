@@ -1,6 +1,6 @@
 -- The frame header of ISO/IEC 11172-3: channels and bound (2.4.2.3), and the size of the frame (2.4.3.1).
 use Prim.Native.Nat.{ℕ, _+_, _*_, _/_, _≤_}
-use mathlib.Core.Bool.{Bool, true, false, not, cond}
+use mathlib.Core.Bool.{Bool, not, cond}
 use mathlib.Core.List.{[], _∷_}
 use mathlib.Core.Path.{_≡_}
 use lib.Dec.{eqb}
@@ -31,9 +31,9 @@ boundOf Bound16 = 16
 abbrev pub freeFormat : FrameHeader → Bool
 freeFormat h = eqb (h .«bit_rate») 0
 
--- The frame's slots, of one byte each in Layer II: N = 144 * bit rate / sampling frequency, truncated, and one more with padding
-abbrev pub slots : FrameHeader → ℕ
-slots h = 144 * h .«bit_rate» / h .«sample_rate» + cond (h .padding) 1 0
+-- the frame's bytes, which the standard calls slots: N = 144 * bit rate / sampling frequency, truncated, and one more with padding
+abbrev pub frameBytes : FrameHeader → ℕ
+frameBytes h = 144 * h .«bit_rate» / h .«sample_rate» + cond (h .padding) 1 0
 
 -- ---- the answer of `frame_size_bytes`
 
@@ -59,7 +59,7 @@ whereAccepted n x = cond (eqb n 0) x 0
 unfoldable pub frameSize : FrameHeader → Size
 frameSize h =
     let n = number (sampleRateAsked h ∷ []) in
-    record { answer = n; bytes = whereAccepted n (slots h) }
+    record { answer = n; bytes = whereAccepted n (frameBytes h) }
 
 -- ---- what the functions promise
 

@@ -4,7 +4,7 @@ use Prim.Native.Nat.{ℕ, _+_, _-_}
 use native.Mathlib.Omega.{arith}
 use borrow.Author.Needs.{needs}
 use Rattle.encoder_bit_budget.specs.Budget.{budgetIn}
-use Rattle.encoder_bit_budget.proofs.AvailableLaws as available
+use Rattle.encoder_bit_budget.proofs.BudgetLaws as budget
 use Rattle.encoder_bit_allocator.specs.Allocation.{AllocationIs}
 use Rattle.encoder_bit_allocator.specs.Numbering.{acceptedIn}
 use Rattle.encoder_bit_allocator.proofs.AnswerLaws.{smr-fits, is-refused, is-insufficient, is-accepted, laid}
@@ -26,7 +26,7 @@ refusal-requires-2 c κs = search needs
 returns : tie.Need-returns
 returns c =
     let b = c .before .before .before .fixed-bit-budget in
-    is-refused _ _ _ (b .result) _ _ (b .ensures .whole) (available.refused (b .result) (c .before .before .match .keys2)) (c .before .refusal .ensures)
+    is-refused _ _ _ (b .result) _ _ (b .ensures .whole) (budget.refused (b .result) (c .before .before .match .keys2)) (c .before .refusal .ensures)
     (c .refusal2 .ensures)
 
 fixed-requires : tie.Need-fixed-requires

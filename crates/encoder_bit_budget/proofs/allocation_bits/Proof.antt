@@ -1,5 +1,5 @@
 -- `encoder_bit_budget::allocation_bits` meets its contract. The loop's invariant: the sum over the fields of the subbands passed.
-use Prim.Native.Nat.{ℕ, _+_, _*_, _-_, _≤_}
+use Prim.Native.Nat.{_*_, _-_, _≤_}
 use native.Mathlib.Nat.{mul-le-mul}
 use native.Mathlib.Omega.{arith}
 use mathlib.Core.Path.{_≡_, sym, ap₂, _∙_}

@@ -4,56 +4,42 @@ use mathlib.Core.Path.{sym, ap, _∙_}
 use Prim.Native.Nat.{ℕ, _+_}
 use lib.Ieee.{minus}
 use Rattle.encoder_bit_budget.specs.Budget.{budgetIn}
-use Rattle.encoder_bit_budget.proofs.AvailableLaws.{signed, signed-fits, refused, none-offered, offered}
+use Rattle.encoder_bit_budget.proofs.AvailableLaws.{signed, signed-fits, none-offered, offered}
+use Rattle.encoder_bit_budget.proofs.BudgetLaws.{refused}
 use Rattle.encoder_bit_budget.proofs.available_data_bits.Statement.{statement}
 use Rattle.encoder_bit_budget.proofs.available_data_bits.Tie as tie
-use Rattle.encoder_bit_budget.proofs.available_data_bits.Reads as reads
-use Rattle.encoder_bit_budget.proofs.available_data_bits.Lts as lts
-use Rattle.encoder_bit_budget.proofs.Budget.refusal.Reads as refusal-reads
-use Rattle.encoder_bit_budget.proofs.FixedBitBudget.fixed.Reads as fixed-reads
-use Rattle.encoder_bit_budget.proofs.fixed_bit_budget.Reads as fixed-bit-budget-reads
 
--- src/lib.rt:200:9
 fixed-bit-budget-requires : tie.Need-fixed-bit-budget-requires
 fixed-bit-budget-requires c κs = search needs
 
--- src/lib.rt:201:20
 enum-known-budget : tie.Need-enum-known-budget
 enum-known-budget c = search needs
 
--- src/lib.rt:202:13
 refusal-requires : tie.Need-refusal-requires
 refusal-requires c κs = search needs
 
--- src/lib.rt:203:9
 returns : tie.Need-returns
 returns c =
     let b = c .before .before .fixed-bit-budget in
     none-offered _ _ (b .result) _ (b .ensures .whole) (refused (b .result) (c .before .match .keys2)) (c .refusal .ensures)
 
--- src/lib.rt:205:17
 fixed-requires : tie.Need-fixed-requires
 fixed-requires c κs = search needs
 
--- src/lib.rt:205:17
 add-spent : tie.Need-add-spent
 add-spent c = search needs
 
--- src/lib.rt:208:16
 cast-t9 : tie.Need-cast-t9
 cast-t9 c = search needs
 
--- src/lib.rt:208:32
 cast-t10 : tie.Need-cast-t10
 cast-t10 c = search needs
 
--- src/lib.rt:208:15
 sub-t11 : tie.Need-sub-t11
 sub-t11 c =
     let b = c .before .before .before .budget .given .0 .0 in
     signed-fits (b .cb) (c .before .fixed .result + c .before .before .before .before .before .before .args .banc) (search needs) (search needs)
 
--- src/lib.rt:197:1
 returns-2 : tie.Need-returns-2
 returns-2 c =
     let g = c .before .before .before .budget .given in

@@ -8,13 +8,10 @@ use Rattle.encoder_bit_budget.specs.Layout.{fieldsBelow, sumOver}
 use Rattle.encoder_bit_budget.specs.Budget.{budgetIn, budgetUnder}
 use Rattle.encoder_bit_budget.specs.Demand.{fieldDemand}
 use Rattle.encoder_bit_budget.proofs.FieldLaws.{added, summed}
-use Rattle.encoder_bit_budget.proofs.BudgetLaws.{accepted-is}
-use Rattle.encoder_bit_budget.proofs.AvailableLaws.{refused}
+use Rattle.encoder_bit_budget.proofs.BudgetLaws.{refused, accepted-is}
 use Rattle.encoder_bit_budget.proofs.DemandLaws.{none-demanded, demanded}
 use Rattle.encoder_bit_budget.proofs.demand_bits.Statement.{statement}
 use Rattle.encoder_bit_budget.proofs.demand_bits.Tie as tie
-use Rattle.encoder_bit_budget.proofs.demand_bits.Reads as reads
-use Rattle.encoder_bit_budget.proofs.demand_bits.Lts as lts
 
 abbrev Inv-loop : tie.InvT-loop
 Inv-loop smr-db table bound channels sblimit bits₀ sb₀ bits sb =

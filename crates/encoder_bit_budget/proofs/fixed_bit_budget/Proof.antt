@@ -7,53 +7,35 @@ use Rattle.bitalloc.specs.Options.{tableIn}
 use Rattle.encoder_bit_budget.proofs.BudgetLaws.{sized, not-sized, refused-table, refused-rate, refused-size, accepted, filled}
 use Rattle.encoder_bit_budget.proofs.fixed_bit_budget.Statement.{statement}
 use Rattle.encoder_bit_budget.proofs.fixed_bit_budget.Tie as tie
-use Rattle.encoder_bit_budget.proofs.fixed_bit_budget.Reads as reads
-use Rattle.encoder_bit_budget.proofs.fixed_bit_budget.Lts as lts
-use Rattle.bitalloc.proofs.BitAllocTable.sblimit.Reads as sblimit-reads
-use Rattle.bitalloc.proofs.select_table.Reads as select-table-reads
-use Rattle.encoder_bit_budget.proofs.allocation_bits.Reads as allocation-bits-reads
-use Rattle.encoder_bit_budget.proofs.crc_bits.Reads as crc-bits-reads
-use Rattle.encoder_bit_budget.proofs.shared_from.Reads as shared-from-reads
-use Rattle.header.proofs.FrameHeader.channels.Reads as channels-reads
-use Rattle.header.proofs.FrameHeader.frame_size_bytes.Reads as frame-size-bytes-reads
 
--- src/lib.rt:113:9
 select-table-requires : tie.Need-select-table-requires
 select-table-requires c κs = search needs
 
--- src/lib.rt:114:27
 enum-known-selected : tie.Need-enum-known-selected
 enum-known-selected c = search needs
 
--- src/lib.rt:115:9
 enum-told : tie.Need-enum-told
 enum-told c = search needs
 
--- src/lib.rt:115:9
 returns : tie.Need-returns
 returns c =
     refused-table _ (sym (c .before .before .select-table .ensures) ∙ ap tableIn (c .enum-told .given .1))
 
--- src/lib.rt:117:9
 frame-size-bytes-requires : tie.Need-frame-size-bytes-requires
 frame-size-bytes-requires c κs = search needs
 
--- src/lib.rt:118:26
 enum-known-size : tie.Need-enum-known-size
 enum-known-size c = search needs
 
--- src/lib.rt:119:9
 enum-told-2 : tie.Need-enum-told-2
 enum-told-2 c = search needs
 
--- src/lib.rt:119:9
 returns-2 : tie.Need-returns-2
 returns-2 c =
     let s = c .before .before .before .before in
     refused-rate _ _ (sym (s .before .before .select-table .ensures) ∙ ap tableIn (s .selected .given .1))
     (not-sized _ (ap sizeOf (sym (c .enum-told2 .given .1)) ∙ c .before .before .frame-size-bytes .ensures .whole))
 
--- src/lib.rt:122:9
 returns-3 : tie.Need-returns-3
 returns-3 c =
     let s = c .before .before .before .before .before .before in
@@ -61,35 +43,27 @@ returns-3 c =
     refused-size _ _ (sym (s .before .before .select-table .ensures) ∙ ap tableIn (s .selected .given .1))
     (z .0) (subst (λ (n : ℕ). 536_870_911 < n) (z .1) (c .if1 .taken))
 
--- src/lib.rt:124:9
 sblimit-requires : tie.Need-sblimit-requires
 sblimit-requires c κs = search needs
 
--- src/lib.rt:125:9
 shared-from-requires : tie.Need-shared-from-requires
 shared-from-requires c κs = search needs
 
--- src/lib.rt:126:9
 channels-requires : tie.Need-channels-requires
 channels-requires c κs = search needs
 
--- src/lib.rt:127:9
 crc-bits-requires : tie.Need-crc-bits-requires
 crc-bits-requires c κs = search needs
 
--- src/lib.rt:128:9
 allocation-bits-requires : tie.Need-allocation-bits-requires
 allocation-bits-requires c κs = search needs
 
--- src/lib.rt:130:18
 cast-t12 : tie.Need-cast-t12
 cast-t12 c = search needs
 
--- src/lib.rt:130:13
 mul-t13 : tie.Need-mul-t13
 mul-t13 c = search needs
 
--- src/lib.rt:110:1
 returns-4 : tie.Need-returns-4
 returns-4 c =
     let z = c .before .before .before .before .before .before .before in

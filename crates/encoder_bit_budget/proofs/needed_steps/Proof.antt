@@ -7,9 +7,6 @@ use borrow.Author.Count.{below-more}
 use Rattle.encoder_bit_budget.proofs.DemandLaws.{Passed, reached, top}
 use Rattle.encoder_bit_budget.proofs.needed_steps.Statement.{statement}
 use Rattle.encoder_bit_budget.proofs.needed_steps.Tie as tie
-use Rattle.encoder_bit_budget.proofs.needed_steps.Reads as reads
-use Rattle.encoder_bit_budget.proofs.needed_steps.Lts as lts
-use Rattle.encoder_bit_budget.proofs.reaches.Reads as reaches-reads
 
 abbrev Inv-loop : tie.InvT-loop
 Inv-loop row places smr top at₀ at = (1 ≤ at) × Passed row smr at

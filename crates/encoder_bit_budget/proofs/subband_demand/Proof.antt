@@ -7,8 +7,6 @@ use Rattle.bitalloc.proofs.RowLaws.{sblimit-small}
 use Rattle.encoder_bit_budget.proofs.DemandLaws.{RowRead, row-read, in-mono, in-own, in-shared}
 use Rattle.encoder_bit_budget.proofs.subband_demand.Statement.{statement}
 use Rattle.encoder_bit_budget.proofs.subband_demand.Tie as tie
-use Rattle.encoder_bit_budget.proofs.subband_demand.Reads as reads
-use Rattle.encoder_bit_budget.proofs.subband_demand.Lts as lts
 
 row-requires : tie.Need-row-requires
 row-requires c κs = search needs
@@ -27,14 +25,14 @@ read : (c : tie.After-nbal)
   → RowRead (c .before .before .args .table) (c .before .before .args .sb) ((1 * 2 ^ c .nbal .result) % 2 ^ 64) (c .before .row .result)
 read c = row-read _ _ _ _ (c .before .before .pre) (c .nbal .ensures) (c .before .row .ensures)
 
-mul-left : tie.Need-mul-left
-mul-left c = omega (arith, sblimit-small (c .before .before .args .table))
+mul-smr0 : tie.Need-mul-smr0
+mul-smr0 c = omega (arith, sblimit-small (c .before .before .args .table))
 
-index-1-left : tie.Need-index-1-left
-index-1-left c = search needs
+index-1-smr0 : tie.Need-index-1-smr0
+index-1-smr0 c = search needs
 
-index-2-left : tie.Need-index-2-left
-index-2-left c = omega (arith, sblimit-small (c .before .before .args .table))
+index-2-smr0 : tie.Need-index-2-smr0
+index-2-smr0 c = omega (arith, sblimit-small (c .before .before .args .table))
 
 needed-bits-requires : tie.Need-needed-bits-requires
 needed-bits-requires c κs =
@@ -51,14 +49,14 @@ returns c =
       search needs
     )
 
-mul-right : tie.Need-mul-right
-mul-right c = omega (arith, sblimit-small (c .before .before .before .before .args .table))
+mul-smr1 : tie.Need-mul-smr1
+mul-smr1 c = omega (arith, sblimit-small (c .before .before .before .before .args .table))
 
-index-1-right : tie.Need-index-1-right
-index-1-right c = search needs
+index-1-smr1 : tie.Need-index-1-smr1
+index-1-smr1 c = search needs
 
-index-2-right : tie.Need-index-2-right
-index-2-right c = omega (arith, sblimit-small (c .before .before .before .before .args .table))
+index-2-smr1 : tie.Need-index-2-smr1
+index-2-smr1 c = omega (arith, sblimit-small (c .before .before .before .before .args .table))
 
 needed-bits-requires-2 : tie.Need-needed-bits-requires-2
 needed-bits-requires-2 c κs =
@@ -115,14 +113,14 @@ subband-demand-spec =
     nbal-requires
     cast-places
     shl-places
-    mul-left
-    index-1-left
-    index-2-left
+    mul-smr0
+    index-1-smr0
+    index-2-smr0
     needed-bits-requires
     returns
-    mul-right
-    index-1-right
-    index-2-right
+    mul-smr1
+    index-1-smr1
+    index-2-smr1
     needed-bits-requires-2
     needed-bits-requires-3
     add-result
