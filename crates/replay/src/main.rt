@@ -1,10 +1,16 @@
 // Replays answers of another implementation, which it reads from standard input, one to a line: calls the library with
 // the same arguments, compares, and prints for each kind how many lines agreed. A line is numbers with a space between
 // them: the kind, the arguments, the expected answers. A line that begins with # is a comment.
+mod answers;
+mod arguments;
+mod budget_kinds;
 mod kinds;
 mod lines;
+mod sample_kinds;
+mod scalefactor_kinds;
+mod table_kinds;
 
-use kinds::Verdict;
+use answers::Verdict;
 use lines::Ended;
 use lines::Line;
 ghost use Prim.Native.Nat.{_<_};

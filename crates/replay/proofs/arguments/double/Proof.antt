@@ -1,4 +1,4 @@
--- `replay::kinds::double` is safe: a pattern whose magnitude is at most that of the infinities is no NaN's.
+-- `replay::arguments::double` is safe: a pattern whose magnitude is at most that of the infinities is no NaN's.
 -- Assumes nothing.
 use mathlib.Core.Path.{_∙_, subst⁻¹}
 use mathlib.Core.Bool.{Bool, not}
@@ -7,8 +7,8 @@ use lib.Ieee.{binary64}
 use lib.Ieee.Bits.{nanBits-above}
 use borrow.Author.Needs.{needs}
 use borrow.Author.Tests.{le-ltb}
-use Rattle.replay.proofs.kinds.double.Statement.{statement}
-use Rattle.replay.proofs.kinds.double.Tie as tie
+use Rattle.replay.proofs.arguments.double.Statement.{statement}
+use Rattle.replay.proofs.arguments.double.Tie as tie
 
 float-from-bits-result : tie.Need-float-from-bits-result
 float-from-bits-result c =

@@ -1,0 +1,134 @@
+// The arguments of a line: from its numbers to values of the library's types.
+use bitalloc::BitAllocTable;
+use bitalloc::OptionTable;
+use bitalloc::OptionU32;
+use header::FrameHeader;
+use header::Mode;
+use header::ModeExtension;
+
+// The double of a bit pattern; NaN for each of NaN's patterns.
+pub fn double(bits: u64) -> f64 {
+    let magnitude = bits % 0x8000_0000_0000_0000;
+    if magnitude > 0x7ff0_0000_0000_0000 {
+        0.0 / 0.0
+    } else {
+        f64::from_bits(bits)
+    }
+}
+
+pub fn u32_of(n: u64) -> OptionU32 {
+    if n > 0xffff_ffff {
+        OptionU32::None
+    } else {
+        OptionU32::Some(n as u32)
+    }
+}
+
+// The number of which these 16 bits are the two's complement.
+pub fn i16_of(bits: u16) -> i16 {
+    if bits < 0x8000 {
+        bits as i16
+    } else {
+        !((0xffff - bits) as i16)
+    }
+}
+
+// The same of 64 bits.
+pub fn i64_of(bits: u64) -> i64 {
+    if bits < 0x8000_0000_0000_0000 {
+        bits as i64
+    } else {
+        !((u64::MAX - bits) as i64)
+    }
+}
+
+pub fn table_of(n: u64) -> OptionTable {
+    match n {
+        0 => OptionTable::Some(BitAllocTable::B2a),
+        1 => OptionTable::Some(BitAllocTable::B2b),
+        2 => OptionTable::Some(BitAllocTable::B2c),
+        3 => OptionTable::Some(BitAllocTable::B2d),
+        4 => OptionTable::Some(BitAllocTable::B1Lsf),
+        _ => OptionTable::None,
+    }
+}
+
+pub enum OptionMode {
+    Some(Mode),
+    None,
+}
+
+pub fn mode_of(n: u64) -> OptionMode {
+    match n {
+        0 => OptionMode::Some(Mode::Stereo),
+        1 => OptionMode::Some(Mode::JointStereo),
+        2 => OptionMode::Some(Mode::DualChannel),
+        3 => OptionMode::Some(Mode::SingleChannel),
+        _ => OptionMode::None,
+    }
+}
+
+pub enum OptionExtension {
+    Some(ModeExtension),
+    None,
+}
+
+pub fn extension_of(n: u64) -> OptionExtension {
+    match n {
+        0 => OptionExtension::Some(ModeExtension::Bound4),
+        1 => OptionExtension::Some(ModeExtension::Bound8),
+        2 => OptionExtension::Some(ModeExtension::Bound12),
+        3 => OptionExtension::Some(ModeExtension::Bound16),
+        _ => OptionExtension::None,
+    }
+}
+
+pub enum OptionHeader {
+    Some(FrameHeader),
+    None,
+}
+
+// The header H, which a line has behind its kind: lsf bit_rate sample_rate padding protection_bit mode extension.
+pub fn header_of(numbers: &[u64; 256]) -> OptionHeader {
+    let lsf = numbers[1];
+    let padding = numbers[4];
+    let protection_bit = numbers[5];
+    if (lsf | padding | protection_bit) > 1 {
+        return OptionHeader::None;
+    }
+    let OptionU32::Some(bit_rate) = u32_of(numbers[2]) else {
+        return OptionHeader::None;
+    };
+    let OptionU32::Some(sample_rate) = u32_of(numbers[3]) else {
+        return OptionHeader::None;
+    };
+    let OptionMode::Some(mode) = mode_of(numbers[6]) else {
+        return OptionHeader::None;
+    };
+    let OptionExtension::Some(mode_extension) = extension_of(numbers[7]) else {
+        return OptionHeader::None;
+    };
+    OptionHeader::Some(FrameHeader {
+        lsf: lsf == 1,
+        bit_rate,
+        sample_rate,
+        padding: padding == 1,
+        mode,
+        mode_extension,
+        protection_bit: protection_bit == 1,
+    })
+}
+
+// Fills a slice with the doubles that a line has from `at` on.
+pub fn read_doubles(numbers: &[u64; 256], at: usize, doubles: &mut [f64]) {
+    let mut place = at;
+    let mut i: usize = 0;
+    while i < doubles.len() {
+        if place >= 256 {
+            return;
+        }
+        doubles[i] = double(numbers[place]);
+        place = place + 1;
+        i = i + 1;
+    }
+}
