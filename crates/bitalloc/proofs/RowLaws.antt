@@ -284,7 +284,7 @@ nbal-sums B1Lsf = refl
 
 -- ---- steps and places are each other's inverse
 
-row-rises : (t : BitAllocTable) (sb i j : ℕ) → i < j → j < length (rowOf t sb) → getD (rowOf t sb) i 0 < getD (rowOf t sb) j 0
+pub row-rises : (t : BitAllocTable) (sb i j : ℕ) → i < j → j < length (rowOf t sb) → getD (rowOf t sb) i 0 < getD (rowOf t sb) j 0
 row-rises =
     everywhere (λ n row. (i j : ℕ) → i < j → j < length row → getD row i 0 < getD row j 0)
     (λ n row r. r .rising) (λ i j l h. absurd (not-suc-le-zero h))

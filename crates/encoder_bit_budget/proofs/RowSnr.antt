@@ -21,7 +21,7 @@ use Rattle.bitalloc.specs.declared.BitAllocTable.the-variants.{B2a, B2b, B2c, B
 use Rattle.bitalloc.specs.declared.QuantClass.{QuantClass}
 use Rattle.bitalloc.specs.Tables.{rowOf, sblimitOf}
 use Rattle.bitalloc.specs.Classes.{classes, classOf, sampleBits, frameBits}
-use Rattle.bitalloc.proofs.RowLaws.{row-rule, no-row}
+use Rattle.bitalloc.proofs.RowLaws.{row-rule, row-rises, no-row}
 use Rattle.encoder_bit_budget.specs.Snr.{RatioRule, snrOf, snr, orNan}
 use Rattle.encoder_bit_budget.specs.Budget.{isSome}
 use Rattle.encoder_bit_budget.proofs.SnrLaws.{keys, ratio-rule, ratio-rises, ratio-le}
@@ -94,11 +94,6 @@ row-ratio t sb i =
 
 pub row-ratio-rule : (t : BitAllocTable) (sb i : ℕ) → RatioRule (snr (getD (rowOf t sb) i 0))
 row-ratio-rule t sb i = ratio-rule (getD (rowOf t sb) i 0) (snr (getD (rowOf t sb) i 0)) (row-ratio t sb i)
-
-row-rises : (t : BitAllocTable) (sb i j : ℕ) → i < j → j < length (rowOf t sb) → getD (rowOf t sb) i 0 < getD (rowOf t sb) j 0
-row-rises t sb =
-    everywhere (λ row. (i j : ℕ) → i < j → j < length row → getD row i 0 < getD row j 0) t sb
-    (λ h. row-rule t sb h .rising) (λ i j l h. absurd (not-suc-le-zero h))
 
 row-steps-le : (t : BitAllocTable) (sb i j : ℕ) → i ≤ j → j < length (rowOf t sb) → getD (rowOf t sb) i 0 ≤ getD (rowOf t sb) j 0
 row-steps-le t sb i j l h =
