@@ -1,5 +1,5 @@
 -- Two sets of rules that agree wherever the rounds look have the same runs: on the fields, on their tops, and on ratios and charges up to there.
-use mathlib.Core.Path.{_≡_, refl, sym, ap, ap₂, _∙_, subst}
+use mathlib.Core.Path.{_≡_, refl, sym, ap, ap₂, _∙_}
 use mathlib.Core.Bool.{Bool, true, false, not, cond, _&&_}
 use mathlib.Core.List.{List}
 use Prim.Native.Nat.{ℕ, zero, suc, _+_, _-_, _≤_, _<_}
@@ -10,7 +10,7 @@ use lib.ListN.{set}
 use Rattle.allocation_rounds.specs.declared.Candidate.{Candidate}
 use Rattle.allocation_rounds.specs.declared.Candidate.the-variants.{Nobody, Field}
 use Rattle.allocation_rounds.specs.declared.Run.{Run}
-use Rattle.allocation_rounds.specs.Rounds.{Rules, price, placeIn, closedIn, waits, consider, best, candidate, closeAt, raiseAt, taken, rounds, room, ended}
+use Rattle.allocation_rounds.specs.Rounds.{Rules, price, placeIn, closedIn, waits, consider, best, candidate, closeAt, taken, rounds, room, ended}
 use Rattle.allocation_rounds.proofs.Scan.{open-below, picked}
 
 pub record Agree (R S : Rules) : Type 0 where

@@ -1,5 +1,4 @@
 -- The order of binary64 is one that the rounds need.
-use mathlib.Core.Path.{_≡_}
 use Rattle.ieee_order.proofs.Order.{float-not-le, float-lt-le, float-trans, float-lt-is}
 use Rattle.allocation_rounds.proofs.Order.{Order}
 

@@ -24,7 +24,7 @@ use Rattle.encoder_bit_budget.specs.declared.FixedBitBudget.{FixedBitBudget}
 use Rattle.encoder_bit_budget.specs.declared.Budget.{Budget}
 use Rattle.encoder_bit_budget.specs.declared.Budget.the-variants.{Ok}
 use Rattle.encoder_bit_budget.specs.Layout.{Field, fieldsBelow, fieldsOf, boundIn}
-use Rattle.encoder_bit_budget.specs.Budget.{Bounded, BudgetIs, headerAsked, isSome, budgetIn, budgetOf, budgetUnder, fixedIn}
+use Rattle.encoder_bit_budget.specs.Budget.{Bounded, headerAsked, isSome, budgetIn, budgetOf, budgetUnder, fixedIn}
 use Rattle.encoder_bit_budget.specs.Demand.{smrAt}
 use Rattle.encoder_bit_budget.proofs.BudgetLaws.{accepted-is}
 use Rattle.allocation_rounds.specs.declared.Run.{Run}

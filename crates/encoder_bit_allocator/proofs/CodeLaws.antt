@@ -1,20 +1,17 @@
 -- What the code computes for one field and one place is what the definitions have there.
-use mathlib.Core.Path.{_≡_, refl, sym, ap, ap₂, _∙_, subst}
-use mathlib.Core.Bool.{Bool, true, false, cond}
+use mathlib.Core.Path.{_≡_, sym, ap, ap₂, _∙_}
+use mathlib.Core.Bool.{Bool, true, false}
 use mathlib.Core.List.{List}
-use mathlib.Core.Option.{none, some}
-use Prim.Native.Nat.{ℕ, _+_, _-_, _*_, _/_, _%_, min, _≤_, _<_}
+use Prim.Native.Nat.{ℕ, _+_, _-_, _*_, _/_, _%_, _<_}
 use native.Mathlib.Nat.{not-suc-le-zero}
-use native.Mathlib.Omega.{arith}
-use lib.Dec.{eqb}
-use lib.Ieee.{Float, nan, binary64, sub, add, div, neg, ofBits}
+use lib.Ieee.{Float, nan, binary64, sub, div, ofBits}
 use lib.ListN.{length, getD, set}
 use borrow.Author.Tests.{ne-eqb}
 use Rattle.ieee_order.specs.Order.{minOf}
 use Rattle.bitalloc.specs.Classes.{sampleBits}
 use Rattle.encoder_bit_budget.specs.declared.OptionF64.{OptionF64}
 use Rattle.encoder_bit_budget.specs.declared.OptionF64.the-variants.{Some, None}
-use Rattle.encoder_bit_budget.specs.Snr.{snrOf, snr, orNan, ratioIn}
+use Rattle.encoder_bit_budget.specs.Snr.{snrOf, orNan, ratioIn}
 use Rattle.encoder_bit_budget.specs.Demand.{smrAt}
 use Rattle.tables.proofs.Listed.{filled}
 use Rattle.encoder_bit_allocator.specs.declared.AllocationField.{AllocationField}

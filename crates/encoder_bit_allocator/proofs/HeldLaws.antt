@@ -1,14 +1,13 @@
 -- From the places that the fields reach to the steps of the slots, and back: what the steps say of the places.
 use mathlib.Core.Path.{_≡_, refl, sym, ap, ap₂, _∙_, subst}
 use mathlib.Core.Bool.{Bool, true, false, cond, _||_}
-use mathlib.Core.List.{List, [], _∷_, map}
+use mathlib.Core.List.{List, [], _∷_}
 use mathlib.Core.Logic.{inl, inr}
-use mathlib.Core.Option.{none, some}
+use mathlib.Core.Option.{none}
 use Prim.Native.Nat.{ℕ, zero, suc, _+_, _-_, _*_, _/_, _%_, min, _≤_, _<_}
-use native.Mathlib.Nat.{le-trans}
 use native.Mathlib.Decide.{decLt}
 use native.Mathlib.Omega.{arith}
-use lib.Dec.{T, eqb, ltb, eqb→eq, lit≤}
+use lib.Dec.{T, eqb, ltb, eqb→eq}
 use lib.ListN.{length, getD}
 use borrow.Author.Tests.{lt-ltb, le-ltb, eq-eqb, ne-eqb}
 use Rattle.tables.specs.Search.{place, oneOf}
@@ -21,7 +20,7 @@ use Rattle.bitalloc.specs.Storage.{kept}
 use Rattle.encoder_bit_budget.specs.declared.FixedBitBudget.{FixedBitBudget}
 use Rattle.encoder_bit_budget.specs.Layout.{Field, fieldsBelow}
 use Rattle.allocation_rounds.specs.Rounds.{placeIn}
-use Rattle.encoder_bit_allocator.specs.Allocation.{fieldIn, serves, stepsBy, stepsHeld, stepsOf, fieldSteps, standing, orBottom, placesFrom}
+use Rattle.encoder_bit_allocator.specs.Allocation.{serves, stepsBy, stepsHeld, stepsOf, fieldSteps, standing, orBottom, placesFrom}
 use Rattle.encoder_bit_allocator.specs.Numbering.{own, shared, numbered, count, serving, Small, Laid}
 use Rattle.encoder_bit_allocator.proofs.LayoutLaws.{Numbered, fields-numbered, Carried, by-number, Outside, by-none}
 use Rattle.encoder_bit_allocator.proofs.RuleLaws.{map-at, numbered-below}

@@ -1,35 +1,32 @@
 -- The rules of a frame's fields: their charges count up, and off NaN their ratios rise, so that the laws of the rounds hold of them.
-use mathlib.Core.Path.{_≡_, refl, sym, ap, ap₂, _∙_, subst}
+use mathlib.Core.Path.{_≡_, refl, sym, ap, _∙_, subst}
 use mathlib.Core.Bool.{Bool, true, false, cond}
-use mathlib.Core.Logic.{_⊎_, inl, inr, ⊎-elim}
 use mathlib.Core.List.{List, [], _∷_, map}
-use Prim.Native.Nat.{ℕ, zero, suc, _+_, _-_, _*_, _/_, _%_, _^_, min, _≤_, _<_}
+use Prim.Native.Nat.{ℕ, zero, suc, _+_, _-_, _*_, _/_, _%_, min, _≤_, _<_}
 use native.Mathlib.Nat.{not-suc-le-zero, le-of-suc-le-suc, le-of-lt, le-trans}
-use native.Mathlib.Decide.{decLt, ℕ-discrete}
+use native.Mathlib.Decide.{decLt}
 use native.Mathlib.Omega.{arith}
 use lib.Dec.{T, eqb, ltb, lit<, lit≤}
 use lib.Pow.{pow-mono}
 use lib.IntN.{pos}
-use lib.Ieee.{Float, nan, fin, binary64, neg, sub, le, isNan, fits}
+use lib.Ieee.{Float, fin, binary64, neg, sub, le, isNan, fits}
 use lib.Ieee.Scale.{finite}
 use lib.ListN.{length, getD, length-map, List·getD-eq-default}
 use borrow.Author.Tests.{lt-ltb, le-ltb, eq-eqb, ne-eqb}
-use Rattle.ieee_order.specs.Order.{minOf}
 use Rattle.ieee_order.proofs.Order.{neg-number}
 use Rattle.ieee_order.proofs.Difference.{sub-mono, sub-number, neg-le-sub}
 use Rattle.ieee_order.proofs.Extremes.{min-mono, min-number}
 use Rattle.bitalloc.specs.declared.BitAllocTable.{BitAllocTable}
 use Rattle.bitalloc.specs.Tables.{rowOf, nbalOf, sblimitOf, RowRule}
 use Rattle.bitalloc.specs.Classes.{sampleBits}
-use Rattle.bitalloc.proofs.RowLaws.{row-rule, places-small, sblimit-small}
+use Rattle.bitalloc.proofs.RowLaws.{row-rule, sblimit-small}
 use Rattle.encoder_bit_budget.specs.Snr.{snr}
 use Rattle.encoder_bit_budget.proofs.RowSnr.{row-ratio-rule, row-ratio-le, row-bits-rise}
-use Rattle.encoder_bit_budget.specs.Layout.{Field, fieldsBelow}
+use Rattle.encoder_bit_budget.specs.Layout.{fieldsBelow}
 use Rattle.encoder_bit_budget.specs.Demand.{smrAt, firstStep}
 use Rattle.allocation_rounds.specs.Rounds.{Rules}
 use Rattle.allocation_rounds.specs.Promises.{Counting, Rising}
 use Rattle.encoder_bit_allocator.specs.Entries.{Entry, slotRatio, least, ratioAt, chargeAt, entryIn, rulesOf, entryOf}
-use Rattle.encoder_bit_allocator.specs.Allocation.{fieldIn, NoNan}
 use Rattle.encoder_bit_allocator.specs.Numbering.{own, shared, numbered, count}
 use Rattle.encoder_bit_allocator.proofs.LayoutLaws.{Numbered, fields-numbered}
 

@@ -1,5 +1,5 @@
 -- The tables that the code lends to the rounds are the rules of the layout, so the rounds end where the definition says.
-use mathlib.Core.Path.{_≡_, refl, sym, ap, ap₂, _∙_, subst}
+use mathlib.Core.Path.{_≡_, sym, ap, ap₂, _∙_, subst}
 use mathlib.Core.List.{List, map}
 use Prim.Native.Nat.{ℕ, _+_, _-_, _*_, _/_, _%_, min, _≤_, _<_}
 use native.Mathlib.Nat.{lt-of-lt-of-le}

@@ -8,7 +8,7 @@ use lib.Dec.{T, eqb}
 use lib.Ieee.{Float, binary64, fits, isNan}
 use lib.ListN.{length, getD}
 use borrow.Author.Tests.{eq-eqb}
-use Rattle.tables.specs.Search.{place, oneOf}
+use Rattle.tables.specs.Search.{oneOf}
 use Rattle.header.specs.declared.FrameHeader.{FrameHeader}
 use Rattle.header.specs.Header.{channelsOf}
 use Rattle.bitalloc.specs.declared.BitAllocTable.{BitAllocTable}
@@ -17,15 +17,15 @@ use Rattle.encoder_bit_budget.specs.Layout.{Field, fieldsBelow, fieldsOf, bound
 use Rattle.encoder_bit_budget.specs.Demand.{smrAt}
 use Rattle.allocation_rounds.specs.declared.Run.{Run}
 use Rattle.allocation_rounds.specs.Rounds.{Rules, price, placeIn, started, ended}
-use Rattle.allocation_rounds.specs.Promises.{charged, Counting, Over, Accounted, Spent, Exchanged}
+use Rattle.allocation_rounds.specs.Promises.{charged, Counting, Spent, Exchanged}
 use Rattle.allocation_rounds.proofs.Floats.{floats}
 use Rattle.allocation_rounds.proofs.OnTheWay.{OnTheWay, end-way, end-over, end-spent}
 use Rattle.allocation_rounds.proofs.Exchange.{end-exchanged}
-use Rattle.encoder_bit_allocator.specs.Entries.{Entry, entryIn, entryOf, rulesOf, entriesOf}
-use Rattle.encoder_bit_allocator.specs.Allocation.{fieldIn, serves, stepsBy, stepsOf, runOf, fieldSteps, placesFrom, NoNan, Worth}
+use Rattle.encoder_bit_allocator.specs.Entries.{entryOf, rulesOf, entriesOf}
+use Rattle.encoder_bit_allocator.specs.Allocation.{fieldIn, stepsBy, stepsOf, runOf, fieldSteps, placesFrom, NoNan, Worth}
 use Rattle.encoder_bit_allocator.specs.Numbering.{numbered, count}
 use Rattle.encoder_bit_allocator.proofs.LayoutLaws.{Numbered, fields-numbered}
-use Rattle.encoder_bit_allocator.proofs.RuleLaws.{Numbers, entriesBelow, rulesBelow, entries-count, entry-at, counting, rising, up-to-top}
+use Rattle.encoder_bit_allocator.proofs.RuleLaws.{Numbers, rulesBelow, entries-count, counting, rising, up-to-top}
 use Rattle.encoder_bit_allocator.proofs.HeldLaws.{at-slot, slot-steps, field-steps, places-back}
 
 abbrev getAt : List ℕ → ℕ → ℕ

@@ -1,15 +1,12 @@
 // The bit allocation of ISO/IEC 11172-3 C.1.5.2.7: how many steps each slot of a frame gets.
 ghost use mathlib.Core.Path.{_≡_};
 ghost use mathlib.Core.Bool.{false};
-ghost use Prim.Native.Nat.{ℕ, _+_, _-_, _*_, _/_, _%_, _≤_, _<_};
+ghost use Prim.Native.Nat.{_-_, _*_, _/_, _%_, _≤_, _<_};
 ghost use lib.Dec.{eqb};
-ghost use lib.Ieee.{nan};
-ghost use lib.ListN.{length, getD};
-ghost use Rattle.bitalloc.specs.Tables.{rowOf, sblimitOf};
-ghost use Rattle.bitalloc.specs.Classes.{sampleBits};
+ghost use lib.ListN.{length};
+ghost use Rattle.bitalloc.specs.Tables.{rowOf};
 ghost use Rattle.bitalloc.specs.Storage.{kept};
 ghost use Rattle.encoder_bit_budget.specs.Layout.{fieldsBelow};
-ghost use Rattle.allocation_rounds.specs.Rounds.{placeIn};
 ghost use Rattle.encoder_bit_allocator.specs.Entries.{slotRatio};
 ghost use Rattle.encoder_bit_allocator.specs.Allocation.{stepsHeld, stepsOf, refused, AllocationIs};
 ghost use Rattle.encoder_bit_allocator.specs.Numbering.{count, serving, fieldOf, ratioBy, chargeBy, FieldIs, LaidOut, Topped, Low, Laid, Small, RunIs, acceptedIn};
@@ -224,6 +221,7 @@ fn steps_held(b: FixedBitBudget, rows: &[u32; 512], places: &[u8; 64]) -> [u32; 
     steps
 }
 
+// The tables that the rules are laid out in, before they are.
 fn no_tops() -> [u8; 64]
     ensures { λ r. ⌜ length r ≡ 64 ⌝ }
 {

@@ -1,11 +1,10 @@
 -- `encoder_bit_allocator::allocate_bits` meets its contract: each return has its law of the answers.
-use mathlib.Core.Path.{sym, ap, _∙_, subst}
+use mathlib.Core.Path.{sym, ap, _∙_}
 use Prim.Native.Nat.{ℕ, _+_, _-_}
 use native.Mathlib.Omega.{arith}
 use borrow.Author.Needs.{needs}
 use Rattle.encoder_bit_budget.specs.Budget.{budgetIn}
 use Rattle.encoder_bit_budget.proofs.BudgetLaws as budget
-use Rattle.encoder_bit_allocator.specs.Allocation.{AllocationIs}
 use Rattle.encoder_bit_allocator.specs.Numbering.{acceptedIn}
 use Rattle.encoder_bit_allocator.proofs.AnswerLaws.{smr-fits, is-refused, is-insufficient, is-accepted, laid}
 use Rattle.encoder_bit_allocator.proofs.allocate_bits.Statement.{statement}

@@ -4,35 +4,25 @@ use Rattle.encoder_bit_allocator.proofs.CodeLaws.{charge-both, charge-o
 use borrow.Author.Needs.{needs}
 use Rattle.encoder_bit_allocator.proofs.charge_at.Statement.{statement}
 use Rattle.encoder_bit_allocator.proofs.charge_at.Tie as tie
-use Rattle.encoder_bit_allocator.proofs.charge_at.Reads as reads
-use Rattle.encoder_bit_allocator.proofs.charge_at.Lts as lts
-use Rattle.bitalloc.proofs.sample_bits_for.Reads as sample-bits-for-reads
 
--- src/lib.rt:103:9
 returns : tie.Need-returns
 returns c = rw (eq-eqb _ _ (c .if1 .taken))
 
--- src/lib.rt:105:9
 sample-bits-for-requires : tie.Need-sample-bits-for-requires
 sample-bits-for-requires c κs = search needs
 
--- src/lib.rt:107:19
 mul-result : tie.Need-mul-result
 mul-result c = search needs
 
--- src/lib.rt:107:9
 add-result : tie.Need-add-result
 add-result c = search needs
 
--- src/lib.rt:109:9
 add-result-2 : tie.Need-add-result-2
 add-result-2 c = search needs
 
--- src/lib.rt:99:1
 returns-2 : tie.Need-returns-2
 returns-2 c = charge-both _ _ _ (c .before .before .if1 .left) (c .if2 .taken) (c .before .sample-bits-for .ensures .whole)
 
--- src/lib.rt:99:1
 returns-3 : tie.Need-returns-3
 returns-3 c = charge-one _ _ _ (c .before .before .if1 .left) (c .if2 .left) (c .before .sample-bits-for .ensures .whole)
 

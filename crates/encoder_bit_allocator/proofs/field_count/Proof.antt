@@ -4,18 +4,13 @@ use native.Mathlib.Omega.{arith}
 use borrow.Author.Needs.{needs}
 use Rattle.encoder_bit_allocator.proofs.field_count.Statement.{statement}
 use Rattle.encoder_bit_allocator.proofs.field_count.Tie as tie
-use Rattle.encoder_bit_allocator.proofs.field_count.Reads as reads
-use Rattle.encoder_bit_allocator.proofs.field_count.Lts as lts
 
--- src/lib.rt:171:9
 add-result : tie.Need-add-result
 add-result c = search needs
 
--- src/lib.rt:164:1
 returns : tie.Need-returns
 returns c = (rw (eq-eqb _ _ (c .if1 .taken)), search needs)
 
--- src/lib.rt:164:1
 returns-2 : tie.Need-returns-2
 returns-2 c = (rw (ne-eqb _ _ (c .if1 .left)) (omega arith), search needs)
 

@@ -3,29 +3,22 @@ use borrow.Author.Tests.{eq-eqb, ne-eqb, lt-ltb, le-ltb}
 use borrow.Author.Needs.{needs}
 use Rattle.encoder_bit_allocator.proofs.field_numbered.Statement.{statement}
 use Rattle.encoder_bit_allocator.proofs.field_numbered.Tie as tie
-use Rattle.encoder_bit_allocator.proofs.field_numbered.Reads as reads
-use Rattle.encoder_bit_allocator.proofs.field_numbered.Lts as lts
 
--- src/lib.rt:53:24
 mul-if2 : tie.Need-mul-if2
 mul-if2 c = search needs
 
--- src/lib.rt:61:22
 sub-t11 : tie.Need-sub-t11
 sub-t11 c = search needs
 
--- src/lib.rt:43:1
 returns : tie.Need-returns
 returns c = let e = eq-eqb _ _ (c .if1 .taken) in record { whole = rw e; subband = rw e; channel = search needs }
 
--- src/lib.rt:43:1
 returns-2 : tie.Need-returns-2
 returns-2 c =
     let e = ne-eqb _ _ (c .before .if1 .left) in
     let l = lt-ltb _ _ (c .if2 .taken) in
     record { whole = rw (e, l); subband = rw (e, l); channel = search needs }
 
--- src/lib.rt:43:1
 returns-3 : tie.Need-returns-3
 returns-3 c =
     let e = ne-eqb _ _ (c .before .if1 .left) in

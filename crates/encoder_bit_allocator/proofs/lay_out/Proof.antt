@@ -9,11 +9,6 @@ use Rattle.encoder_bit_allocator.specs.Numbering.{LaidOut}
 use Rattle.encoder_bit_allocator.proofs.CodeLaws.{none-laid, one-more-laid, low-field}
 use Rattle.encoder_bit_allocator.proofs.lay_out.Statement.{statement}
 use Rattle.encoder_bit_allocator.proofs.lay_out.Tie as tie
-use Rattle.encoder_bit_allocator.proofs.lay_out.Reads as reads
-use Rattle.encoder_bit_allocator.proofs.lay_out.Lts as lts
-use Rattle.encoder_bit_allocator.proofs.charge_at.Reads as charge-at-reads
-use Rattle.encoder_bit_allocator.proofs.field_numbered.Reads as field-numbered-reads
-use Rattle.encoder_bit_allocator.proofs.ratio_at.Reads as ratio-at-reads
 
 abbrev Inv-loop : tie.InvT-loop
 Inv-loop rows smr-db bound channels fields ratios₀ charges₀ end k₀ ratios charges k = (k ≤ end) × ((length ratios ≡ 1024) × ((length charges ≡ 1024) × LaidOut rows smr-db (eqb channels 1) bound k ratios charges))
@@ -21,7 +16,6 @@ Inv-loop rows smr-db bound channels fields ratios₀ charges₀ end k₀ ratios 
 abbrev μ-loop : tie.MeasureT-loop
 μ-loop rows smr-db bound channels fields ratios₀ charges₀ end k₀ ratios charges k = end - k
 
--- src/lib.rt:126:15
 -- the field's subband is carried
 low-at : (c : tie.After-field-numbered Inv-loop μ-loop) → c .field-numbered .result .subband < 30
 low-at c =
@@ -33,63 +27,48 @@ low-at c =
 mul-end : tie.Need-mul-end Inv-loop μ-loop
 mul-end c = search needs
 
--- src/lib.rt:128:5
 loop-holds : tie.Need-loop-holds Inv-loop μ-loop
 loop-holds c = (search needs, (c .pre .3, (c .pre .4, none-laid _ _ _ _ _ _)))
 
--- src/lib.rt:129:13
 field-numbered-requires : tie.Need-field-numbered-requires Inv-loop μ-loop
 field-numbered-requires c κs = search needs
 
--- src/lib.rt:130:18
 mul-at : tie.Need-mul-at Inv-loop μ-loop
 mul-at c = omega (arith, low-at (c .before))
 
--- src/lib.rt:130:18
 add-at : tie.Need-add-at Inv-loop μ-loop
 add-at c = omega (arith, low-at (c .before))
 
--- src/lib.rt:131:24
 mul-nb-steps : tie.Need-mul-nb-steps Inv-loop μ-loop
 mul-nb-steps c = omega (arith, low-at (c .before))
 
--- src/lib.rt:131:24
 element-copy-out-nb-steps : tie.Need-element-copy-out-nb-steps Inv-loop μ-loop
 element-copy-out-nb-steps c = omega (arith, low-at (c .before))
 
--- src/lib.rt:132:21
 ratio-at-requires : tie.Need-ratio-at-requires Inv-loop μ-loop
 ratio-at-requires c κs = (let h = low-at (c .before .before) in omega arith, c .before .before .field-numbered .ensures .channel)
 
--- src/lib.rt:132:9
 mul-ratios : tie.Need-mul-ratios Inv-loop μ-loop
 mul-ratios c = search needs
 
--- src/lib.rt:132:9
 element-write-ratios : tie.Need-element-write-ratios Inv-loop μ-loop
 element-write-ratios c = search needs
 
--- src/lib.rt:133:22
 charge-at-requires : tie.Need-charge-at-requires Inv-loop μ-loop
 charge-at-requires c κs = search needs
 
--- src/lib.rt:133:9
 mul-charges : tie.Need-mul-charges Inv-loop μ-loop
 mul-charges c = search needs
 
--- src/lib.rt:133:9
 element-write-charges : tie.Need-element-write-charges Inv-loop μ-loop
 element-write-charges c = search needs
 
--- src/lib.rt:134:13
 add-k : tie.Need-add-k Inv-loop μ-loop
 add-k c = search needs
 
--- src/lib.rt:128:5
 loop-less : tie.Need-loop-less Inv-loop μ-loop
 loop-less c = search needs
 
--- src/lib.rt:128:5
 loop-again : tie.Need-loop-again Inv-loop μ-loop
 loop-again c =
     let f = c .before .before .before .before in
@@ -107,7 +86,6 @@ loop-again c =
       )
     )
 
--- src/lib.rt:114:1
 returns : tie.Need-returns Inv-loop μ-loop
 returns c =
     let l = c .before .loop in

@@ -11,10 +11,6 @@ use Rattle.bitalloc.specs.Tables.{rowOf}
 use Rattle.encoder_bit_allocator.specs.Numbering.{numbered, Topped}
 use Rattle.encoder_bit_allocator.proofs.lay_tops.Statement.{statement}
 use Rattle.encoder_bit_allocator.proofs.lay_tops.Tie as tie
-use Rattle.encoder_bit_allocator.proofs.lay_tops.Reads as reads
-use Rattle.encoder_bit_allocator.proofs.lay_tops.Lts as lts
-use Rattle.encoder_bit_allocator.proofs.field_numbered.Reads as field-numbered-reads
-use Rattle.encoder_bit_allocator.proofs.top_place.Reads as top-place-reads
 
 abbrev Inv-loop : tie.InvT-loop
 Inv-loop table bound channels fields tops₀ f₀ tops f = (f ≤ fields) × ((length tops ≡ 64) × Topped table (eqb channels 1) bound f tops)
@@ -22,32 +18,25 @@ Inv-loop table bound channels fields tops₀ f₀ tops f = (f ≤ fields) × ((l
 abbrev μ-loop : tie.MeasureT-loop
 μ-loop table bound channels fields tops₀ f₀ tops f = fields - f
 
--- src/lib.rt:144:5
 loop-holds : tie.Need-loop-holds Inv-loop μ-loop
 unfolding Topped
 loop-holds c = (search needs, (c .pre .2, λ f h. absurd (not-suc-le-zero h)))
 
--- src/lib.rt:145:13
 field-numbered-requires : tie.Need-field-numbered-requires Inv-loop μ-loop
 field-numbered-requires c κs = search needs
 
--- src/lib.rt:146:19
 top-place-requires : tie.Need-top-place-requires Inv-loop μ-loop
 top-place-requires c κs = search needs
 
--- src/lib.rt:146:9
 element-write-tops : tie.Need-element-write-tops Inv-loop μ-loop
 element-write-tops c = search needs
 
--- src/lib.rt:147:13
 add-f : tie.Need-add-f Inv-loop μ-loop
 add-f c = search needs
 
--- src/lib.rt:144:5
 loop-less : tie.Need-loop-less Inv-loop μ-loop
 loop-less c = search needs
 
--- src/lib.rt:144:5
 loop-again : tie.Need-loop-again Inv-loop μ-loop
 unfolding Topped
 loop-again c =
@@ -63,7 +52,6 @@ loop-again c =
       )
     )
 
--- src/lib.rt:139:1
 returns : tie.Need-returns Inv-loop μ-loop
 unfolding Topped
 returns c =

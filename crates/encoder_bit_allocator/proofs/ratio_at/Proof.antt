@@ -3,68 +3,49 @@ use Rattle.encoder_bit_allocator.proofs.CodeLaws.{ratio-both, ratio-one
 use borrow.Author.Needs.{needs}
 use Rattle.encoder_bit_allocator.proofs.ratio_at.Statement.{statement}
 use Rattle.encoder_bit_allocator.proofs.ratio_at.Tie as tie
-use Rattle.encoder_bit_allocator.proofs.ratio_at.Reads as reads
-use Rattle.encoder_bit_allocator.proofs.ratio_at.Lts as lts
-use Rattle.encoder_bit_allocator.proofs.slot_ratio.Reads as slot-ratio-reads
-use Rattle.ieee_order.proofs.min.Reads as min-reads
 
--- src/lib.rt:89:42
 mul-slot-ratio : tie.Need-mul-slot-ratio
 mul-slot-ratio c = search needs
 
--- src/lib.rt:89:42
 index-1-slot-ratio : tie.Need-index-1-slot-ratio
 index-1-slot-ratio c = search needs
 
--- src/lib.rt:89:42
 index-2-slot-ratio : tie.Need-index-2-slot-ratio
 index-2-slot-ratio c = search needs
 
--- src/lib.rt:89:13
 slot-ratio-requires : tie.Need-slot-ratio-requires
 slot-ratio-requires c κs = search needs
 
--- src/lib.rt:90:43
 mul-slot-ratio-2 : tie.Need-mul-slot-ratio-2
 mul-slot-ratio-2 c = search needs
 
--- src/lib.rt:90:43
 index-1-slot-ratio-2 : tie.Need-index-1-slot-ratio-2
 index-1-slot-ratio-2 c = search needs
 
--- src/lib.rt:90:43
 index-2-slot-ratio-2 : tie.Need-index-2-slot-ratio-2
 index-2-slot-ratio-2 c = search needs
 
--- src/lib.rt:90:13
 slot-ratio-requires-2 : tie.Need-slot-ratio-requires-2
 slot-ratio-requires-2 c κs = search needs
 
--- src/lib.rt:91:9
 min-requires : tie.Need-min-requires
 min-requires c κs = search needs
 
--- src/lib.rt:94:30
 mul-slot-ratio-3 : tie.Need-mul-slot-ratio-3
 mul-slot-ratio-3 c = search needs
 
--- src/lib.rt:94:30
 mul-slot-ratio-4 : tie.Need-mul-slot-ratio-4
 mul-slot-ratio-4 c = search needs
 
--- src/lib.rt:94:30
 index-1-slot-ratio-3 : tie.Need-index-1-slot-ratio-3
 index-1-slot-ratio-3 c = search needs
 
--- src/lib.rt:94:30
 index-2-slot-ratio-3 : tie.Need-index-2-slot-ratio-3
 index-2-slot-ratio-3 c = search needs
 
--- src/lib.rt:94:9
 slot-ratio-requires-3 : tie.Need-slot-ratio-requires-3
 slot-ratio-requires-3 c κs = search needs
 
--- src/lib.rt:83:1
 returns : tie.Need-returns
 returns c =
     let b = c .before .before .before .before .before in
@@ -72,7 +53,6 @@ returns c =
     ratio-both (a .smr-db .now) (a .field) (a .nb-steps) _ _ _ (b .if1 .taken) (c .before .before .before .slot-ratio .ensures) (c .before .slot-ratio2 .ensures)
     (c .min .ensures)
 
--- src/lib.rt:83:1
 returns-2 : tie.Need-returns-2
 returns-2 c =
     let b = c .before .before in

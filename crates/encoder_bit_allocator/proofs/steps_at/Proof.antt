@@ -1,7 +1,6 @@
 -- `encoder_bit_allocator::steps_at` meets its contract: each return has its law of the steps of a slot.
 use Prim.Native.Nat.{_%_}
 use native.Mathlib.Omega.{arith}
-use lib.Dec.{eqb}
 use borrow.Author.Needs.{needs}
 use Rattle.encoder_bit_allocator.proofs.HeldLaws.{steps-one, steps-two, steps-second, steps-past}
 use Rattle.encoder_bit_allocator.proofs.steps_at.Statement.{statement}
