@@ -12,9 +12,11 @@ use lib.Ieee.Digits.{size-lt, size-le, size-reaches}
 use native.Mathlib.Nat.{pow-suc, lt-suc-self}
 use native.Mathlib.Omega.{arith}
 use borrow.Author.Tests.{eqb-true, eq-eqb, ne-eqb}
-use Rattle.tables.specs.Search.{oneOf}
+use Rattle.tables.specs.Search.{oneOf, entryAt}
 use Rattle.tables.proofs.Rule.{first, second, all}
-use Rattle.tables.proofs.Search.{find-found, find-missing, find-passes}
+use Rattle.tables.proofs.Search.{find-found, find-missing, find-passes, none-passes}
+use Rattle.tables.proofs.Keys.{Each, at-key, no-key}
+use types.Run.{OneOf}
 use Rattle.bitalloc.specs.declared.QuantClass.{QuantClass}
 use Rattle.bitalloc.specs.declared.OptionClass.the-variants.{Some, None}
 use Rattle.bitalloc.specs.Options.{classIn}
@@ -87,21 +89,46 @@ class-missing steps qs d e b =
 
 -- ---- the bits of a frame's samples
 
-pub some-samples : (q : QuantClass) → ClassRule q → 0 < q .«samples_per_codeword»
-some-samples q r = go (q .grouping) refl
+pub bits-small : (steps : ℕ) → sampleBits steps ≤ 576
+unfolding sampleBits
+bits-small steps = go (classOf steps) refl
   where
-    go : (b : Bool) → q .grouping ≡ b → 0 < q .«samples_per_codeword»
-    go true e = rw (r .triple e .0) (lit< tt)
-    go false e = rw (r .single e .0) (lit< tt)
+    go : (o : Option QuantClass) → classOf steps ≡ o → frameBits o ≤ 576
+    go none e = lit≤ tt
+    go (some q) e = class-rule steps q e .1 .frame
 
-pub some-bits : (steps : ℕ) (q : QuantClass) → classOf steps ≡ some q
-  → SampleBitsAre steps (36 / q .«samples_per_codeword» * q .«bits_per_codeword»)
-unfolding sampleBits
-some-bits steps q e = record { whole = sym (ap frameBits e); small = class-rule steps q e .1 .frame }
+pub bits-are : (steps r : ℕ) → r ≡ sampleBits steps → SampleBitsAre steps r
+bits-are steps r e = record { whole = e; small = rw e (bits-small steps) }
 
-pub no-bits : (steps : ℕ) → classOf steps ≡ none → SampleBitsAre steps 0
-unfolding sampleBits
-no-bits steps e = record { whole = sym (ap frameBits e); small = lit≤ tt }
+-- the steps of the classes whose codewords hold one sample
+abbrev pub singles : List ℕ
+singles = 7 ∷ 15 ∷ 31 ∷ 63 ∷ 127 ∷ 255 ∷ 511 ∷ 1023 ∷ 2047 ∷ 4095 ∷ 8191 ∷ 16383 ∷ 32767 ∷ 65535 ∷ []
+
+-- all of their digits are ones
+computed-singles : Each (λ n. 36 * (32 - leadingZeros 32 n) ≡ sampleBits n) singles
+unfolding sampleBits leadingZeros
+computed-singles = (refl, (refl, (refl, (refl, (refl, (refl, (refl, (refl, (refl, (refl, (refl, (refl, (refl, (refl, tt))))))))))))))
+
+pub single-bits : (steps : ℕ) → OneOf singles steps → SampleBitsAre steps (36 * (32 - leadingZeros 32 steps))
+single-bits steps h = bits-are steps _ (at-key (λ n. 36 * (32 - leadingZeros 32 n) ≡ sampleBits n) singles steps computed-singles h)
+
+keyed : QuantClass → Bool
+keyed q = oneOf (3 ∷ 5 ∷ 9 ∷ singles) (q .«nb_steps»)
+
+computed-keys : T (all keyed classes)
+unfolding keyed oneOf classes
+computed-keys = tt
+
+-- steps that are none of the keys have no class
+pub no-bits : (steps : ℕ) → (steps ≡ 3 → ⊥) → (steps ≡ 5 → ⊥) → (steps ≡ 9 → ⊥) → (OneOf singles steps → ⊥) → SampleBitsAre steps 0
+unfolding sampleBits classOf keyed oneOf
+no-bits steps a b c d =
+    let h : oneOf (3 ∷ 5 ∷ 9 ∷ singles) steps ≡ false =
+        rw (ne-eqb steps 3 a, ne-eqb steps 5 b, ne-eqb steps 9 c) (no-key singles steps d) in
+    bits-are steps 0
+    (sym (ap (λ o. frameBits (entryAt classes o))
+    (none-passes (λ q. eqb (q .«nb_steps») steps) keyed classes computed-keys
+    (λ q t. ne-eqb (q .«nb_steps») steps (λ e. subst T h (subst (λ (n : ℕ). T (oneOf (3 ∷ 5 ∷ 9 ∷ singles) n)) e t))))))
 
 -- ---- grouping
 

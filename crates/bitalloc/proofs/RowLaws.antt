@@ -12,8 +12,8 @@ use borrow.Author.Tests.{le-ltb, lt-leb, eq-eqb, ne-eqb, eqb-true}
 use lib.Pow.{pow-mono}
 use lib.Dec.{T, leb, ltb, eqb, ltb→lt, leb→le, eqb→eq, lit<, lit≤}
 use lib.ListN.{length, getD, replicate}
-use Rattle.tables.proofs.Listed.{tabulated, listed}
-use Rattle.bitalloc.specs.Storage.{kept, rowOf16}
+use Rattle.tables.proofs.Listed.{tabulated}
+use Rattle.bitalloc.specs.Storage.{rowOf16, storedAB, storedCD, storedLsf}
 use Rattle.tables.specs.Search.{entryAt}
 use Rattle.tables.proofs.Rule.{first, second, allBelow, below, all, all-at, ordered, ordered-at}
 use Rattle.tables.proofs.Search.{there, past, place-found, place-missing, at-place, none-passes}
@@ -132,63 +132,87 @@ some-places t sb n p nz =
 pub places-small : (t : BitAllocTable) (sb : ℕ) → length (rowOf t sb) ≤ 16
 places-small = everywhere (λ n row. length row ≤ 16) (λ n row r. rw (r .places) (pow-mono (r .most))) (lit≤ tt)
 
+-- a subband that is carried has place 0
+pub some-place : (t : BitAllocTable) (sb : ℕ) → sb < sblimitOf t → 0 < length (rowOf t sb)
+some-place t sb h = let r = row-rule t sb h in rw (r .places) (lt-of-lt-of-le (lit< tt) (pow-mono (r .least)))
+
 pub steps-small : (t : BitAllocTable) (sb i : ℕ) → getD (rowOf t sb) i 0 ≤ 65535
 steps-small t sb i = everywhere (λ n row. getD row i 0 ≤ 65535) (λ n row r. r .topped i) (lit≤ tt) t sb
 
--- ---- the rows as they are kept
+-- ---- the rows as the code has them
 
--- a place stands only in the row of a subband that is carried
-carried : (t : BitAllocTable) (sb i : ℕ) → i < length (rowOf t sb) → sb < 30
-carried t sb i h = go (decLt sb 30)
-  where
-    go : Dec (sb < 30) → sb < 30
-    go (yes l) = l
-    go (no l) =
-        let e = no-row t sb (le-trans (sblimit-small t) (omega arith)) in
-        absurd (not-suc-le-zero (subst (λ (row : List ℕ). i < length row) e h))
-
-pub within : (t : BitAllocTable) (sb i places : ℕ) → places ≡ length (rowOf t sb) → i < places → sb < 30
-within t sb i places p h = carried t sb i (subst (λ (n : ℕ). i < n) p h)
-
--- the kept number at any place of the first 32 subbands, a row's or behind it
-pub kept-number : (t : BitAllocTable) (sb p : ℕ) (rows : List ℕ) → rows ≡ kept t → sb < 32 → p < 16
-  → getD rows (16 * sb + p) 0 ≡ getD (rowOf t sb) p 0
-unfolding kept
-kept-number t sb p rows e l s =
-    let q : (16 * sb + p) / 16 ≡ sb = omega arith in
-    let r : (16 * sb + p) % 16 ≡ p = omega arith in
-    ap (λ (rows : List ℕ). getD rows (16 * sb + p) 0) e
-    ∙ tabulated 512 (λ k. getD (rowOf t (k / 16)) (k % 16) 0) (16 * sb + p) 0 (omega arith)
-    ∙ ap₂ (λ (s j : ℕ). getD (rowOf t s) j 0) q r
+-- the sixteen numbers of a row have its steps at its places, and 0 at any other
+pub row-number : (t : BitAllocTable) (sb p : ℕ) (row : List ℕ) → row ≡ rowOf16 t sb → p < 16 → getD row p 0 ≡ getD (rowOf t sb) p 0
+unfolding rowOf16
+row-number t sb p row e h =
+    ap (λ (row : List ℕ). getD row p 0) e ∙ tabulated 16 (λ p. getD (rowOf t sb) p 0) p 0 h
 
 -- what the code reads at a place of a row
-pub kept-steps : (t : BitAllocTable) (sb i : ℕ) (rows : List ℕ) → rows ≡ kept t → i < length (rowOf t sb)
-  → getD rows (16 * sb + i) 0 ≡ getD (rowOf t sb) i 0
-kept-steps t sb i rows e h =
-    let l = carried t sb i h in
-    kept-number t sb i rows e (omega arith) (lt-of-lt-of-le h (places-small t sb))
+pub row-steps : (t : BitAllocTable) (sb i : ℕ) (row : List ℕ) → row ≡ rowOf16 t sb → i < length (rowOf t sb) → getD row i 0 ≡ getD (rowOf t sb) i 0
+row-steps t sb i row e h = row-number t sb i row e (lt-of-lt-of-le h (places-small t sb))
 
--- a row that was filled, and one that is not there
-pub row-filled : (t : BitAllocTable) (sb : ℕ) (row : List ℕ) → length row ≡ 16 → ((p : ℕ) → p < 16 → getD row p 0 ≡ getD (rowOf t sb) p 0)
-  → row ≡ rowOf16 t sb
-unfolding rowOf16
-row-filled t sb row e b = listed 16 (λ p. getD (rowOf t sb) p 0) 0 row e b
+-- the row by the subbands at which the code changes from one row to the next
+abbrev pub stored : BitAllocTable → ℕ → List ℕ
+stored B2a sb = storedAB sb 27
+stored B2b sb = storedAB sb 30
+stored B2c sb = storedCD sb 8
+stored B2d sb = storedCD sb 12
+stored B1Lsf sb = storedLsf sb 30
 
-pub row-past : (t : BitAllocTable) (sb : ℕ) → 32 ≤ sb → replicate 16 0 ≡ rowOf16 t sb
+alike : List ℕ → List ℕ → Bool
+alike [] [] = true
+alike [] (y ∷ ys) = false
+alike (x ∷ xs) [] = false
+alike (x ∷ xs) (y ∷ ys) = eqb x y && alike xs ys
+
+alike→eq : (xs ys : List ℕ) → T (alike xs ys) → xs ≡ ys
+unfolding alike
+alike→eq [] [] t = refl
+alike→eq [] (y ∷ ys) t = absurd t
+alike→eq (x ∷ xs) [] t = absurd t
+alike→eq (x ∷ xs) (y ∷ ys) t =
+    ap₂ (λ (x : ℕ) (xs : List ℕ). x ∷ xs) (eqb→eq x y (first (eqb x y) _ t)) (alike→eq xs ys (second (eqb x y) _ t))
+
+computed-stored : (t : BitAllocTable) → T (allBelow 32 (λ sb. alike (stored t sb) (rowOf16 t sb)))
+unfolding alike rowOf16 ranges
+computed-stored B2a = tt
+computed-stored B2b = tt
+computed-stored B2c = tt
+computed-stored B2d = tt
+computed-stored B1Lsf = tt
+
+stored-past : (t : BitAllocTable) (sb : ℕ) → 32 ≤ sb → stored t sb ≡ replicate 16 0
+stored-past B2a sb h = rw (le-ltb sb 3 (omega arith), le-ltb sb 11 (omega arith), le-ltb sb 23 (omega arith), le-ltb sb 27 (omega arith))
+stored-past B2b sb h = rw (le-ltb sb 3 (omega arith), le-ltb sb 11 (omega arith), le-ltb sb 23 (omega arith), le-ltb sb 30 (omega arith))
+stored-past B2c sb h = rw (le-ltb sb 2 (omega arith), le-ltb sb 8 (omega arith))
+stored-past B2d sb h = rw (le-ltb sb 2 (omega arith), le-ltb sb 12 (omega arith))
+stored-past B1Lsf sb h = rw (le-ltb sb 4 (omega arith), le-ltb sb 11 (omega arith), le-ltb sb 30 (omega arith))
+
+row-past : (t : BitAllocTable) (sb : ℕ) → 32 ≤ sb → replicate 16 0 ≡ rowOf16 t sb
 unfolding rowOf16
 row-past t sb h = rw (no-row t sb (le-trans (sblimit-small t) (le-trans (lit≤ tt) h)))
+
+row-stored : (t : BitAllocTable) (sb : ℕ) → stored t sb ≡ rowOf16 t sb
+row-stored t sb = go (decLt sb 32)
+  where
+    go : Dec (sb < 32) → stored t sb ≡ rowOf16 t sb
+    go (yes h) = alike→eq _ _ (below 32 (λ sb. alike (stored t sb) (rowOf16 t sb)) (computed-stored t) sb h)
+    go (no h) = let l : 32 ≤ sb = omega arith in stored-past t sb l ∙ row-past t sb l
+
+pub row-is : (s t : BitAllocTable) (sb : ℕ) (r : List ℕ) → s ≡ t → r ≡ stored t sb → r ≡ rowOf16 s sb
+row-is s t sb r e q = q ∙ row-stored t sb ∙ ap (λ (t : BitAllocTable). rowOf16 t sb) (sym e)
 
 -- ---- the steps at a place, and the place of steps
 
 held : {m n : ℕ} → Some m ≡ Some n → m ≡ n
 held e = cc
 
-pub steps-there : (t : BitAllocTable) (sb i places : ℕ) (rows : List ℕ) → rows ≡ kept t → places ≡ length (rowOf t sb) → i < places
-  → StepsAre t sb i (Some (getD rows (16 * sb + i) 0))
+pub steps-there : (t : BitAllocTable) (sb i places : ℕ) (row : List ℕ) → row ≡ rowOf16 t sb → places ≡ length (rowOf t sb) → i < places
+  → StepsAre t sb i (Some (getD row i 0))
 unfolding stepsAt
-steps-there t sb i places rows e p h =
+steps-there t sb i places row e p h =
     let l : i < length (rowOf t sb) = subst (λ (n : ℕ). i < n) p h in
-    let v = kept-steps t sb i rows e l in
+    let v = row-steps t sb i row e l in
     record {
       whole = ap some v ∙ sym (there (rowOf t sb) i 0 l);
       below = λ n q. (lt-of-lt-of-le l (places-small t sb), subst (λ (n : ℕ). n ≤ 65535) (sym v ∙ held q) (steps-small t sb i))
@@ -201,26 +225,26 @@ steps-past t sb i places p h = record {
   below = λ n q. absurd (Option·none-ne-some n (ap numberIn q))
 }
 
-pub index-found : (t : BitAllocTable) (sb steps i places : ℕ) (rows : List ℕ) → rows ≡ kept t → places ≡ length (rowOf t sb)
-  → i < places → ((k : ℕ) → k < i → getD rows (16 * sb + k) 0 ≡ steps → ⊥) → getD rows (16 * sb + i) 0 ≡ steps → IndexIs t sb steps (Some i)
+pub index-found : (t : BitAllocTable) (sb steps i places : ℕ) (row : List ℕ) → row ≡ rowOf16 t sb → places ≡ length (rowOf t sb)
+  → i < places → ((k : ℕ) → k < i → getD row k 0 ≡ steps → ⊥) → getD row i 0 ≡ steps → IndexIs t sb steps (Some i)
 unfolding indexOf
-index-found t sb steps i places rows e p h b q =
+index-found t sb steps i places row e p h b q =
     let l : i < length (rowOf t sb) = subst (λ (n : ℕ). i < n) p h in
     record {
       whole =
           sym (place-found (λ n. eqb n steps) (rowOf t sb) i 0 l
-          (λ k m. ne-eqb _ _ (λ r. b k m (kept-steps t sb k rows e (lt-trans m l) ∙ r)))
-          (eq-eqb _ _ (sym (kept-steps t sb i rows e l) ∙ q)));
+          (λ k m. ne-eqb _ _ (λ r. b k m (row-steps t sb k row e (lt-trans m l) ∙ r)))
+          (eq-eqb _ _ (sym (row-steps t sb i row e l) ∙ q)));
       below = λ j r. subst (λ (n : ℕ). n < 16) (held r) (lt-of-lt-of-le l (places-small t sb))
     }
 
-pub index-missing : (t : BitAllocTable) (sb steps places : ℕ) (rows : List ℕ) → rows ≡ kept t → places ≡ length (rowOf t sb)
-  → ((k : ℕ) → k < places → getD rows (16 * sb + k) 0 ≡ steps → ⊥) → IndexIs t sb steps None
+pub index-missing : (t : BitAllocTable) (sb steps places : ℕ) (row : List ℕ) → row ≡ rowOf16 t sb → places ≡ length (rowOf t sb)
+  → ((k : ℕ) → k < places → getD row k 0 ≡ steps → ⊥) → IndexIs t sb steps None
 unfolding indexOf
-index-missing t sb steps places rows e p b = record {
+index-missing t sb steps places row e p b = record {
   whole =
       sym (place-missing (λ n. eqb n steps) (rowOf t sb) 0
-      (λ k l. ne-eqb _ _ (λ r. b k (subst (λ (n : ℕ). k < n) (sym p) l) (kept-steps t sb k rows e l ∙ r))));
+      (λ k l. ne-eqb _ _ (λ r. b k (subst (λ (n : ℕ). k < n) (sym p) l) (row-steps t sb k row e l ∙ r))));
   below = λ j r. absurd (Option·none-ne-some j (ap numberIn r))
 }
 

@@ -6,7 +6,7 @@ ghost use Prim.Native.Nat.{_≤_};
 ghost use lib.Dec.{ltb};
 ghost use lib.ListN.{length};
 ghost use Rattle.bitalloc.specs.Tables.{sblimitOf, rowOf, NbalIs, StepsAre, IndexIs};
-ghost use Rattle.bitalloc.specs.Storage.{kept, rowOf16};
+ghost use Rattle.bitalloc.specs.Storage.{rowOf16};
 ghost use Rattle.bitalloc.specs.Options.{numberIn, tableIn};
 ghost use Rattle.bitalloc.specs.Select.{kbpsPerChannel, tableAt, tableOf, free, kbps};
 ghost use Rattle.bitalloc.specs.Classes.{classes, bitsPerSample, grouped, ClassIs, SampleBitsAre};
@@ -67,8 +67,8 @@ impl BitAllocTable {
         let at = index as usize;
         let places = self.places(sb);
         if at < places {
-            let rows = self.rows();
-            OptionU32::Some(rows[16 * sb + at])
+            let row = self.row(sb);
+            OptionU32::Some(row[at])
         } else {
             OptionU32::None
         }
@@ -79,10 +79,10 @@ impl BitAllocTable {
         ensures { λ r. ⌜ IndexIs self sb «nb_steps» r ⌝ }
     {
         let places = self.places(sb);
-        let rows = self.rows();
+        let row = self.row(sb);
         let mut at: usize = 0;
         while at < places {
-            if rows[16 * sb + at] == nb_steps {
+            if row[at] == nb_steps {
                 return OptionU32::Some(at as u32);
             }
             at = at + 1;
@@ -94,16 +94,13 @@ impl BitAllocTable {
     pub fn row(self, sb: usize) -> [u32; 16]
         ensures { λ r. ⌜ r ≡ rowOf16 self sb ⌝ }
     {
-        let mut row = [0; 16];
-        if sb < NUM_SUBBANDS {
-            let rows = self.rows();
-            let mut p: usize = 0;
-            while p < 16 {
-                row[p] = rows[16 * sb + p];
-                p = p + 1;
-            }
+        match self {
+            BitAllocTable::B2a => rows::a_or_b(sb, 27),
+            BitAllocTable::B2b => rows::a_or_b(sb, 30),
+            BitAllocTable::B2c => rows::c_or_d(sb, 8),
+            BitAllocTable::B2d => rows::c_or_d(sb, 12),
+            BitAllocTable::B1Lsf => rows::lsf(sb, 30),
         }
-        row
     }
 
     // How many places the subband's row has.
@@ -112,19 +109,6 @@ impl BitAllocTable {
     {
         let nbal = self.nbal(sb);
         if nbal == 0 { 0 } else { 1 << nbal }
-    }
-
-    // The rows of all 32 subbands, sixteen numbers each: place p of subband s at 16 * s + p.
-    pub fn rows(self) -> [u32; 512]
-        ensures { λ r. ⌜ r ≡ kept self ⌝ }
-    {
-        match self {
-            BitAllocTable::B2a => rows::b2a_rows(),
-            BitAllocTable::B2b => rows::b2b_rows(),
-            BitAllocTable::B2c => rows::b2c_rows(),
-            BitAllocTable::B2d => rows::b2d_rows(),
-            BitAllocTable::B1Lsf => rows::b1_lsf_rows(),
-        }
     }
 }
 
@@ -417,14 +401,17 @@ pub fn is_grouped(nb_steps: u32) -> bool
     }
 }
 
-// The bits of a subband's 36 samples in a frame.
+// The bits of a subband's 36 samples in a frame: twelve codewords of three samples, or 36 of as many bits as the steps have.
 pub fn sample_bits_for(nb_steps: u32) -> u32
     ensures { λ r. ⌜ SampleBitsAre «nb_steps» r ⌝ }
 {
-    let found = class_of_quantization(nb_steps);
-    let OptionClass::Some(class) = found else {
-        return 0;
-    };
-    let codewords = 36 / class.samples_per_codeword;
-    codewords * class.bits_per_codeword
+    match nb_steps {
+        3 => 60,
+        5 => 84,
+        9 => 120,
+        7 | 15 | 31 | 63 | 127 | 255 | 511 | 1023 | 2047 | 4095 | 8191 | 16383 | 32767 | 65535 => {
+            36 * (32 - u32::leading_zeros(nb_steps))
+        }
+        _ => 0,
+    }
 }

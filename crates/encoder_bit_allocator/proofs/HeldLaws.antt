@@ -15,8 +15,8 @@ use Rattle.tables.proofs.Listed.{tabulated}
 use Rattle.tables.proofs.Search.{there}
 use Rattle.bitalloc.specs.declared.BitAllocTable.{BitAllocTable}
 use Rattle.bitalloc.specs.Tables.{rowOf, sblimitOf, stepsAt, indexOf}
-use Rattle.bitalloc.proofs.RowLaws.{sblimit-small, index-of-steps, kept-number}
-use Rattle.bitalloc.specs.Storage.{kept}
+use Rattle.bitalloc.proofs.RowLaws.{sblimit-small, index-of-steps, row-number}
+use Rattle.bitalloc.specs.Storage.{rowOf16}
 use Rattle.encoder_bit_budget.specs.declared.FixedBitBudget.{FixedBitBudget}
 use Rattle.encoder_bit_budget.specs.Layout.{Field, fieldsBelow}
 use Rattle.allocation_rounds.specs.Rounds.{placeIn}
@@ -141,7 +141,7 @@ module _ (t : BitAllocTable) (bound channels : ℕ) (low : bound ≤ sblimitOf t
 
 -- ---- what the code finds for a slot
 
-module _ (b : FixedBitBudget) (laid : Laid b) (rows places : List ℕ) (kept-rows : rows ≡ kept (b .table)) (small : Small places) (ch sb : ℕ) where
+module _ (b : FixedBitBudget) (laid : Laid b) (places : List ℕ) (small : Small places) (ch sb : ℕ) (row : List ℕ) (e : row ≡ rowOf16 (b .table) sb) where
   abbrev Held : ℕ → Type 0
   Held n = n ≡ stepsHeld (fieldsBelow (b .bound) (b .channels) (b .sblimit)) (b .table) places ch sb
 
@@ -155,24 +155,24 @@ module _ (b : FixedBitBudget) (laid : Laid b) (rows places : List ℕ) (kept-row
   none-held o = rw (laid .limit) (sym (held-outside (b .table) (b .bound) (b .channels) low places ch sb o))
 
   read-at : (f : ℕ) → sb < sblimitOf (b .table) → Carried (eqb (b .channels) 1) (sblimitOf (b .table)) ch sb → f ≡ serving (eqb (b .channels) 1) (b .bound) ch sb
-    → Held (getD rows (16 * sb + placeIn places f) 0)
-  read-at f h c e =
+    → Held (getD row (placeIn places f) 0)
+  read-at f h c i =
       rw (laid .limit)
-      (kept-number (b .table) sb (placeIn places f) rows kept-rows (let z = sblimit-small (b .table) in omega arith) (small f)
-      ∙ ap (λ (k : ℕ). getD (rowOf (b .table) sb) (placeIn places k) 0) e ∙ sym (held-carried (b .table) (b .bound) (b .channels) low places ch sb c))
+      (row-number (b .table) sb (placeIn places f) row e (small f)
+      ∙ ap (λ (k : ℕ). getD (rowOf (b .table) sb) (placeIn places k) 0) i ∙ sym (held-carried (b .table) (b .bound) (b .channels) low places ch sb c))
 
-  pub steps-one : b .channels ≡ 1 → ch ≡ 0 → sb < b .sblimit → Held (getD rows (16 * sb + placeIn places sb) 0)
+  pub steps-one : b .channels ≡ 1 → ch ≡ 0 → sb < b .sblimit → Held (getD row (placeIn places sb) 0)
   unfolding Carried
-  steps-one e z h = let q = eq-eqb (b .channels) 1 e in read-at sb (below h) (rw q (z, below h)) (rw q)
+  steps-one n z h = let q = eq-eqb (b .channels) 1 n in read-at sb (below h) (rw q (z, below h)) (rw q)
 
   pub steps-two : (b .channels ≡ 1 → ⊥) → ch < 2 → sb < b .sblimit → (f : ℕ) → f ≡ serving false (b .bound) ch sb
-    → Held (getD rows (16 * sb + placeIn places f) 0)
+    → Held (getD row (placeIn places f) 0)
   unfolding Carried
-  steps-two e c h f i = let q = ne-eqb (b .channels) 1 e in read-at f (below h) (rw q (c, below h)) (rw q i)
+  steps-two n c h f i = let q = ne-eqb (b .channels) 1 n in read-at f (below h) (rw q (c, below h)) (rw q i)
 
   pub steps-second : b .channels ≡ 1 → (ch ≡ 0 → ⊥) → Held 0
   unfolding Outside
-  steps-second e z = none-held (rw (eq-eqb (b .channels) 1 e) (inl (omega arith)))
+  steps-second n z = none-held (rw (eq-eqb (b .channels) 1 n) (inl (omega arith)))
 
   pub steps-past : b .sblimit ≤ sb → Held 0
   unfolding Outside

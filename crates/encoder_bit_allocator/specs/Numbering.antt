@@ -59,22 +59,30 @@ ratioBy smr x steps = least (map (slotRatio steps) (map (λ ch. smrAt smr ch (x 
 abbrev pub chargeBy : Field → ℕ → ℕ
 chargeBy x steps = cond (eqb steps 0) 0 (sampleBits steps + firstStep x)
 
--- the steps at an entry of the tables, sixteen to a field
-abbrev pub stepsIn : List ℕ → Bool → ℕ → ℕ → ℕ
-stepsIn rows one bound k = getD rows (16 * numbered one bound (k / 16) .subband + k % 16) 0
+-- the steps of a field at a place of its row
+abbrev pub stepsIn : BitAllocTable → Bool → ℕ → ℕ → ℕ → ℕ
+stepsIn t one bound f p = getD (rowOf t (numbered one bound f .subband)) p 0
 
--- the first n entries of the tables of ratios and of charges
-pub record LaidOut (rows : List ℕ) (smr : List (List Float)) (one : Bool) (bound n : ℕ) (ratios : List Float) (charges : List ℕ) : Type 0 where
-  pub ratio : (k : ℕ) → k < n → getD ratios k nan ≡ ratioBy smr (numbered one bound (k / 16)) (stepsIn rows one bound k)
-  pub charge : (k : ℕ) → k < n → getD charges k 0 ≡ chargeBy (numbered one bound (k / 16)) (stepsIn rows one bound k)
+abbrev pub placesIn : BitAllocTable → Bool → ℕ → ℕ → ℕ
+placesIn t one bound f = length (rowOf t (numbered one bound f .subband))
+
+-- the tables of ratios and of charges, sixteen entries to a field, as far as entry n: at the places of the rows, and free behind them
+pub record LaidOut (t : BitAllocTable) (smr : List (List Float)) (one : Bool) (bound n : ℕ) (ratios : List Float) (charges : List ℕ) : Type 0 where
+  pub long : length ratios ≡ 1024
+  pub wide : length charges ≡ 1024
+  pub ratio : (f p : ℕ) → p < placesIn t one bound f → 16 * f + p < n → getD ratios (16 * f + p) nan ≡ ratioBy smr (numbered one bound f) (stepsIn t one bound f p)
+  pub charge : (f p : ℕ) → p < placesIn t one bound f → 16 * f + p < n → getD charges (16 * f + p) 0 ≡ chargeBy (numbered one bound f) (stepsIn t one bound f p)
 
 -- the top places of the first n fields
 unfoldable pub Topped : BitAllocTable → Bool → ℕ → ℕ → List ℕ → Type 0
 Topped t one bound n tops = (f : ℕ) → f < n → getD tops f 0 ≡ length (rowOf t (numbered one bound f .subband)) - 1
 
--- every field's subband is carried
+-- a field's subband is carried, and so is every field's below n
+abbrev pub LowAt : Bool → ℕ → ℕ → Type 0
+LowAt one bound f = numbered one bound f .subband < 30
+
 abbrev pub Low : Bool → ℕ → ℕ → Type 0
-Low one bound n = (f : ℕ) → f < n → numbered one bound f .subband < 30
+Low one bound n = (f : ℕ) → f < n → LowAt one bound f
 
 -- places that a row of sixteen numbers has
 abbrev pub Small : List ℕ → Type 0

@@ -1,15 +1,14 @@
 // The bit allocation of ISO/IEC 11172-3 C.1.5.2.7: how many steps each slot of a frame gets.
 ghost use mathlib.Core.Path.{_≡_};
 ghost use mathlib.Core.Bool.{false};
-ghost use Prim.Native.Nat.{_-_, _*_, _/_, _%_, _≤_, _<_};
+ghost use Prim.Native.Nat.{_+_, _-_, _*_, _/_, _%_, _≤_, _<_};
 ghost use lib.Dec.{eqb};
 ghost use lib.ListN.{length};
 ghost use Rattle.bitalloc.specs.Tables.{rowOf};
-ghost use Rattle.bitalloc.specs.Storage.{kept};
 ghost use Rattle.encoder_bit_budget.specs.Layout.{fieldsBelow};
 ghost use Rattle.encoder_bit_allocator.specs.Entries.{slotRatio};
 ghost use Rattle.encoder_bit_allocator.specs.Allocation.{stepsHeld, stepsOf, refused, AllocationIs};
-ghost use Rattle.encoder_bit_allocator.specs.Numbering.{count, serving, fieldOf, ratioBy, chargeBy, FieldIs, LaidOut, Topped, Low, Laid, Small, RunIs, acceptedIn};
+ghost use Rattle.encoder_bit_allocator.specs.Numbering.{count, serving, fieldOf, ratioBy, chargeBy, FieldIs, LaidOut, Topped, LowAt, Low, Laid, Small, RunIs, acceptedIn};
 use allocation_rounds::Run;
 use audio_data::AudioData;
 use bitalloc::BitAllocTable;
@@ -107,9 +106,36 @@ fn charge_at(field: AllocationField, nb_steps: u32) -> u32
     }
 }
 
+// The ratios and charges of one field: those at the places of its row, from entry 16 * number on.
+fn lay_field(
+    table: BitAllocTable,
+    smr_db: &[[f64; 32]; 2],
+    bound: usize,
+    channels: usize,
+    number: usize,
+    ratios: &mut [f64; 1024],
+    charges: &mut [u32; 1024],
+)
+    requires { ⌜ (bound ≤ 30) × (number < 64) × LowAt (eqb channels 1) bound number × LaidOut table (now «smr_db») (eqb channels 1) bound (16 * number) (now ratios) (now charges) ⌝ }
+    ensures { λ _. ⌜ LaidOut table (now («smr_db» .entry)) (eqb channels 1) bound (16 * (number + 1)) (now (ratios .exit)) (now (charges .exit)) ⌝ }
+{
+    let field = field_numbered(bound, channels, number);
+    let row = table.row(field.subband);
+    let places = table.places(field.subband);
+    let start = 16 * number;
+    let mut p: usize = 0;
+    while p < places {
+        let nb_steps = row[p];
+        let at = start + p;
+        ratios[at] = ratio_at(smr_db, field, nb_steps);
+        charges[at] = charge_at(field, nb_steps);
+        p = p + 1;
+    }
+}
+
 // The tables of ratios and charges, sixteen entries for each field.
 fn lay_out(
-    rows: &[u32; 512],
+    table: BitAllocTable,
     smr_db: &[[f64; 32]; 2],
     bound: usize,
     channels: usize,
@@ -118,17 +144,12 @@ fn lay_out(
     charges: &mut [u32; 1024],
 )
     requires { ⌜ (bound ≤ 30) × (fields ≤ 64) × Low (eqb channels 1) bound fields × (length (now ratios) ≡ 1024) × (length (now charges) ≡ 1024) ⌝ }
-    ensures { λ _. ⌜ LaidOut (now (rows .entry)) (now («smr_db» .entry)) (eqb channels 1) bound (16 * fields) (now (ratios .exit)) (now (charges .exit)) ⌝ }
+    ensures { λ _. ⌜ LaidOut table (now («smr_db» .entry)) (eqb channels 1) bound (16 * fields) (now (ratios .exit)) (now (charges .exit)) ⌝ }
 {
-    let end = 16 * fields;
-    let mut k: usize = 0;
-    while k < end {
-        let field = field_numbered(bound, channels, k / 16);
-        let at = 16 * field.subband + k % 16;
-        let nb_steps = rows[at];
-        ratios[k] = ratio_at(smr_db, field, nb_steps);
-        charges[k] = charge_at(field, nb_steps);
-        k = k + 1;
+    let mut f: usize = 0;
+    while f < fields {
+        lay_field(table, smr_db, bound, channels, f, ratios, charges);
+        f = f + 1;
     }
 }
 
@@ -182,25 +203,27 @@ fn field_serving(bound: usize, ch: usize, sb: usize) -> usize
 }
 
 // The steps of a slot: those at the place of the field that serves it, and 0 where none does.
-fn steps_at(b: FixedBitBudget, rows: &[u32; 512], places: &[u8; 64], slot: usize) -> u32
-    requires { ⌜ (slot < 64) × Laid b × (now rows ≡ kept (b .table)) × Small (now places) ⌝ }
+fn steps_at(b: FixedBitBudget, places: &[u8; 64], slot: usize) -> u32
+    requires { ⌜ (slot < 64) × Laid b × Small (now places) ⌝ }
     ensures { λ r. ⌜ r ≡ stepsHeld (fieldsBelow (b .bound) (b .channels) (b .sblimit)) (b .table) (now (places .entry)) (slot / 32) (slot % 32) ⌝ }
 {
     let ch = slot / 32;
     let sb = slot % 32;
+    let table = b.table;
+    let row = table.row(sb);
     let sblimit = b.sblimit;
     if sb < sblimit {
         if b.channels == 1 {
             if ch == 0 {
                 let place = places[sb] as usize;
-                rows[16 * sb + place]
+                row[place]
             } else {
                 0
             }
         } else {
             let field = field_serving(b.bound, ch, sb);
             let place = places[field] as usize;
-            rows[16 * sb + place]
+            row[place]
         }
     } else {
         0
@@ -208,14 +231,14 @@ fn steps_at(b: FixedBitBudget, rows: &[u32; 512], places: &[u8; 64], slot: usize
 }
 
 // The steps of every slot.
-fn steps_held(b: FixedBitBudget, rows: &[u32; 512], places: &[u8; 64]) -> [u32; 64]
-    requires { ⌜ Laid b × (now rows ≡ kept (b .table)) × Small (now places) ⌝ }
+fn steps_held(b: FixedBitBudget, places: &[u8; 64]) -> [u32; 64]
+    requires { ⌜ Laid b × Small (now places) ⌝ }
     ensures { λ r. ⌜ r ≡ stepsOf (fieldsBelow (b .bound) (b .channels) (b .sblimit)) (b .table) (now (places .entry)) ⌝ }
 {
     let mut steps = [0u32; 64];
     let mut slot: usize = 0;
     while slot < 64 {
-        steps[slot] = steps_at(b, rows, places, slot);
+        steps[slot] = steps_at(b, places, slot);
         slot = slot + 1;
     }
     steps
@@ -241,8 +264,8 @@ fn no_charges() -> [u32; 1024]
 }
 
 // Where the rounds end that have these bits.
-fn run_of(b: FixedBitBudget, rows: &[u32; 512], smr_db: &[[f64; 32]; 2], offered: u32) -> Run
-    requires { ⌜ Laid b × (now rows ≡ kept (b .table)) ⌝ }
+fn run_of(b: FixedBitBudget, smr_db: &[[f64; 32]; 2], offered: u32) -> Run
+    requires { ⌜ Laid b ⌝ }
     ensures { λ r. ⌜ RunIs b (now («smr_db» .entry)) offered r ⌝ }
 {
     let bound = b.bound;
@@ -253,7 +276,7 @@ fn run_of(b: FixedBitBudget, rows: &[u32; 512], smr_db: &[[f64; 32]; 2], offered
     let mut ratios = no_ratios();
     let mut charges = no_charges();
     lay_tops(table, bound, channels, fields, &mut tops);
-    lay_out(rows, smr_db, bound, channels, fields, &mut ratios, &mut charges);
+    lay_out(table, smr_db, bound, channels, fields, &mut ratios, &mut charges);
     let run = Run::start(offered);
     run.finish(fields, &tops, &ratios, &charges)
 }
@@ -264,11 +287,10 @@ fn accepted(b: FixedBitBudget, smr_db: &[[f64; 32]; 2], offered: u32) -> Allocat
     ensures { λ r. ⌜ r ≡ acceptedIn b (now («smr_db» .entry)) offered ⌝ }
 {
     let table = b.table;
-    let rows = table.rows();
-    let run = run_of(b, &rows, smr_db, offered);
+    let run = run_of(b, smr_db, offered);
     let mut audio = AudioData::new(table, b.bound, b.channels);
     let places = run.places;
-    let nb_steps = steps_held(b, &rows, &places);
+    let nb_steps = steps_held(b, &places);
     audio.nb_steps = nb_steps;
     Allocation {
         number: 0,

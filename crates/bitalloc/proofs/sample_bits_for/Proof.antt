@@ -1,47 +1,37 @@
--- `bitalloc::sample_bits_for` meets its contract: it is the definition's product, and the class's rule has its bound.
+-- `bitalloc::sample_bits_for` meets its contract: antt computes the bits at the keys, and no other steps have a class.
 use borrow.Author.Needs.{needs}
-use mathlib.Core.Path.{sym, ap, _∙_}
-use native.Mathlib.Omega.{arith}
-use Rattle.bitalloc.specs.Options.{classIn}
-use Rattle.bitalloc.proofs.ClassLaws.{some-samples, some-bits, no-bits}
+use mathlib.Core.Path.{refl}
+use lib.Count.{leading-le}
+use Rattle.bitalloc.specs.Classes.{sampleBits}
+use Rattle.bitalloc.proofs.ClassLaws.{bits-are, single-bits, no-bits}
 use Rattle.bitalloc.proofs.sample_bits_for.Statement.{statement}
 use Rattle.bitalloc.proofs.sample_bits_for.Tie as tie
 
-class-of-quantization-requires : tie.Need-class-of-quantization-requires
-class-of-quantization-requires c κs = search needs
-
-enum-known-found : tie.Need-enum-known-found
-enum-known-found c = search needs
-
-enum-told : tie.Need-enum-told
-enum-told c = search needs
-
-returns : tie.Need-returns
-returns c = no-bits _ (sym (c .before .before .class-of-quantization .ensures .whole) ∙ ap classIn (c .enum-told .given .1))
-
-div-codewords : tie.Need-div-codewords
-div-codewords c =
-    let g = c .before .before .found .given in
-    some-samples (g .0 .0) (c .before .before .before .before .class-of-quantization .ensures .ruled (g .0 .0) (g .1) .1)
+sub-result : tie.Need-sub-result
+sub-result c = leading-le 32 _
 
 mul-result : tie.Need-mul-result
-mul-result c =
-    let g = c .before .before .before .found .given in
-    omega (arith, c .before .before .before .before .before .class-of-quantization .ensures .ruled (g .0 .0) (g .1) .1 .frame)
+mul-result c = search needs
+
+returns : tie.Need-returns
+unfolding sampleBits
+returns c = bits-are _ 60 (rw (c .match .keys1) refl)
 
 returns-2 : tie.Need-returns-2
-returns-2 c =
-    let g = c .before .before .before .found .given in
-    some-bits _ (g .0 .0) (sym (c .before .before .before .before .before .class-of-quantization .ensures .whole) ∙ ap classIn (g .1))
+unfolding sampleBits
+returns-2 c = bits-are _ 84 (rw (c .match .keys2) refl)
+
+returns-3 : tie.Need-returns-3
+unfolding sampleBits
+returns-3 c = bits-are _ 120 (rw (c .match .keys3) refl)
+
+returns-4 : tie.Need-returns-4
+returns-4 c = single-bits _ (c .match .keys4)
+
+returns-5 : tie.Need-returns-5
+returns-5 c =
+    let r = c .match .rest in
+    no-bits _ (r .0 .0 .0 .1) (r .0 .0 .1) (r .0 .1) (r .1)
 
 pub sample-bits-for-spec : {M : Type 1} → statement M
-sample-bits-for-spec =
-    tie.close
-    (tie.spec
-    class-of-quantization-requires
-    enum-known-found
-    enum-told
-    returns
-    div-codewords
-    mul-result
-    returns-2)
+sample-bits-for-spec = tie.close (tie.spec sub-result mul-result returns returns-2 returns-3 returns-4 returns-5)

@@ -4,9 +4,6 @@ use Rattle.encoder_bit_allocator.proofs.RunLaws.{accepted-in}
 use Rattle.encoder_bit_allocator.proofs.accepted.Statement.{statement}
 use Rattle.encoder_bit_allocator.proofs.accepted.Tie as tie
 
-rows-requires : tie.Need-rows-requires
-rows-requires c κs = search needs
-
 run-of-requires : tie.Need-run-of-requires
 run-of-requires c κs = search needs
 
@@ -18,9 +15,9 @@ steps-held-requires c κs = search needs
 
 returns : tie.Need-returns
 returns c =
-    let n = c .before .before .before .before in
+    let n = c .before .before .before in
     accepted-in _ _ _ _ _ _ (n .before .run-of .ensures) (n .new .ensures) (c .steps-held .ensures)
 
 pub accepted-spec : {M : Type 1} → statement M
 accepted-spec =
-    tie.close (tie.spec rows-requires run-of-requires new-requires steps-held-requires returns)
+    tie.close (tie.spec run-of-requires new-requires steps-held-requires returns)

@@ -24,7 +24,7 @@ lay-out-requires : tie.Need-lay-out-requires
 lay-out-requires c κs =
     let s = c .before .before .before .before .before .before .before .before in
     let n = c .before .before .before .before .before .before .before .field-count .ensures in
-    let l = s .pre .0 in
+    let l = s .pre in
     (
       let h = l .few in let k = l .within in omega arith,
       let h = n .1 in omega arith,
@@ -45,7 +45,7 @@ returns c =
     let l = o .before .before .before in
     let n = l .before .before .before .before .before in
     let s = n .before in
-    run-is (s .args .b) _ _ _ _ _ _ _ _ _ (s .pre .0) (s .pre .1) (n .field-count .ensures .0) (n .field-count .ensures .1) (l .lay-tops .ensures)
+    run-is (s .args .b) _ _ _ _ _ _ _ _ (s .pre) (n .field-count .ensures .0) (n .field-count .ensures .1) (l .lay-tops .ensures)
     (o .lay-out .ensures) (c .before .before .before .before .start .ensures) (c .finish .ensures)
 
 pub run-of-spec : {M : Type 1} → statement M

@@ -12,18 +12,18 @@ use Rattle.encoder_bit_allocator.proofs.steps_held.Statement.{statement
 use Rattle.encoder_bit_allocator.proofs.steps_held.Tie as tie
 
 abbrev Inv-loop : tie.InvT-loop
-Inv-loop b rows places steps₀ slot₀ steps slot =
+Inv-loop b places steps₀ slot₀ steps slot =
     (slot ≤ 64) × ((length steps ≡ 64) × ((k : ℕ) → k < slot
     → getD steps k 0 ≡ stepsHeld (fieldsBelow (b .bound) (b .channels) (b .sblimit)) (b .table) places (k / 32) (k % 32)))
 
 abbrev μ-loop : tie.MeasureT-loop
-μ-loop b rows places steps₀ slot₀ steps slot = 64 - slot
+μ-loop b places steps₀ slot₀ steps slot = 64 - slot
 
 loop-holds : tie.Need-loop-holds Inv-loop μ-loop
 loop-holds c = (search needs, (refl, λ k h. absurd (not-suc-le-zero h)))
 
 steps-at-requires : tie.Need-steps-at-requires Inv-loop μ-loop
-steps-at-requires c κs = let p = c .before .before .pre in (search needs, p .0, p .1, p .2)
+steps-at-requires c κs = let p = c .before .before .pre in (search needs, p .0, p .1)
 
 mul-steps : tie.Need-mul-steps Inv-loop μ-loop
 mul-steps c = search needs

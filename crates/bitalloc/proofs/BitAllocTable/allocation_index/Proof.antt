@@ -5,43 +5,37 @@ use native.Mathlib.Omega.{arith}
 use lib.ListN.{getD}
 use borrow.Author.Needs.{needs}
 use borrow.Author.Count.{below-more}
-use Rattle.bitalloc.proofs.RowLaws.{within, index-found, index-missing}
+use Rattle.bitalloc.proofs.RowLaws.{index-found, index-missing}
 use Rattle.bitalloc.proofs.BitAllocTable.allocation_index.Statement.{statement}
 use Rattle.bitalloc.proofs.BitAllocTable.allocation_index.Tie as tie
 
 abbrev Inv-loop : tie.InvT-loop
-Inv-loop sb nb-steps places rows at₀ at = (at ≤ places) × ((k : ℕ) → k < at → getD rows (16 * sb + k) 0 ≡ nb-steps → ⊥)
+Inv-loop sb nb-steps places row at₀ at = (at ≤ places) × ((k : ℕ) → k < at → getD row k 0 ≡ nb-steps → ⊥)
 
 abbrev μ-loop : tie.MeasureT-loop
-μ-loop sb nb-steps places rows at₀ at = places - at
+μ-loop sb nb-steps places row at₀ at = places - at
 
 places-requires : tie.Need-places-requires Inv-loop μ-loop
 places-requires c κs = search needs
 
-rows-requires : tie.Need-rows-requires Inv-loop μ-loop
-rows-requires c κs = search needs
+row-requires : tie.Need-row-requires Inv-loop μ-loop
+row-requires c κs = search needs
 
 loop-holds : tie.Need-loop-holds Inv-loop μ-loop
 loop-holds c = search needs
 
 mul-if1 : tie.Need-mul-if1 Inv-loop μ-loop
-mul-if1 c = omega (arith, within _ _ _ _ (c .before .before .before .places .ensures .0) (c .loop-test .taken))
-
-add-if1 : tie.Need-add-if1 Inv-loop μ-loop
-add-if1 c = omega (arith, within _ _ _ _ (c .before .before .before .places .ensures .0) (c .loop-test .taken))
-
-mul-if1-2 : tie.Need-mul-if1-2 Inv-loop μ-loop
-mul-if1-2 c = omega (arith, within _ _ _ _ (c .before .before .before .places .ensures .0) (c .loop-test .taken))
+mul-if1 c = search needs
 
 array-read-if1 : tie.Need-array-read-if1 Inv-loop μ-loop
-array-read-if1 c = omega (arith, within _ _ _ _ (c .before .before .before .places .ensures .0) (c .loop-test .taken))
+array-read-if1 c = search needs
 
-cast-t15 : tie.Need-cast-t15 Inv-loop μ-loop
-cast-t15 c = search needs
+cast-t13 : tie.Need-cast-t13 Inv-loop μ-loop
+cast-t13 c = search needs
 
 returns : tie.Need-returns Inv-loop μ-loop
 returns c =
-    index-found _ _ _ _ _ _ (c .before .before .before .rows .ensures) (c .before .before .before .before .places .ensures .0)
+    index-found _ _ _ _ _ _ (c .before .before .before .row .ensures) (c .before .before .before .before .places .ensures .0)
     (c .before .loop-test .taken) (c .before .before .loop .inv .1) (c .if1 .taken)
 
 add-at : tie.Need-add-at Inv-loop μ-loop
@@ -55,7 +49,7 @@ loop-again c = (search needs, below-more _ _ (c .before .before .loop .inv .1) (
 
 returns-2 : tie.Need-returns-2 Inv-loop μ-loop
 returns-2 c =
-    index-missing _ _ _ _ _ (c .before .before .rows .ensures) (c .before .before .before .places .ensures .0)
+    index-missing _ _ _ _ _ (c .before .before .row .ensures) (c .before .before .before .places .ensures .0)
     (λ k l. c .before .loop .inv .1 k (omega arith))
 
 pub allocation-index-spec : {M : Type 1} → statement M
@@ -65,13 +59,11 @@ allocation-index-spec =
     Inv-loop
     μ-loop
     places-requires
-    rows-requires
+    row-requires
     loop-holds
     mul-if1
-    add-if1
-    mul-if1-2
     array-read-if1
-    cast-t15
+    cast-t13
     returns
     add-at
     loop-less
