@@ -8,3 +8,4 @@ pub mod Tests
 pub mod Answers
 pub mod Floats
 pub mod Agree
+pub mod Watching

@@ -7,6 +7,7 @@ ghost use lib.Ieee.{nan};
 ghost use Rattle.allocation_rounds.specs.Rounds.{price, placeIn, closedIn, waits, consider, closeAt, round, ended, started, raisedBy, takenBy};
 ghost use Rattle.allocation_rounds.specs.Lent.{lent};
 ghost use Rattle.allocation_rounds.specs.Answers.{BestIs, Onward};
+ghost use Rattle.allocation_rounds.specs.Watch.{scanned, watching, Watched, Rewatched};
 
 // The field whose turn it is, with its mask-to-noise ratio.
 pub enum Candidate {
@@ -69,6 +70,13 @@ fn ratio_of(places: &[u8; 64], ratios: &[f64; 1024], field: usize) -> f64
     ratios[16 * field + place]
 }
 
+// How many fields are considered: at most 64.
+fn considered(fields: usize) -> usize
+    ensures { λ r. ⌜ r ≡ min fields 64 ⌝ }
+{
+    if fields < 64 { fields } else { 64 }
+}
+
 // The candidate among the fields: the first of those that wait with the least ratio.
 pub fn best<'a>(
     places: &'a [u8; 64],
@@ -79,13 +87,69 @@ pub fn best<'a>(
 ) -> Candidate
     ensures { λ r. ⌜ BestIs (now (places .entry)) (now (closed .entry)) fields (now (tops .entry)) (now (ratios .entry)) r ⌝ }
 {
-    let end = if fields < 64 { fields } else { 64 };
+    let end = considered(fields);
     let mut found = Candidate::Nobody;
     let mut field: usize = 0;
     while field < end {
         if is_waiting(places, closed, tops, field) {
             let ratio = ratio_of(places, ratios, field);
             found = found.consider(field, ratio);
+        }
+        field = field + 1;
+    }
+    found
+}
+
+// Brings what is kept of a field up to the state: whether it waits, and its ratio at its place.
+fn watch<'a>(
+    places: &'a [u8; 64],
+    closed: &'a [bool; 64],
+    tops: &[u8; 64],
+    ratios: &[f64; 1024],
+    field: usize,
+    waiting: &mut [bool; 64],
+    present: &mut [f64; 64],
+)
+    requires { ⌜ (field < 64) × (length (now waiting) ≡ 64) × (length (now present) ≡ 64) ⌝ }
+    ensures { λ _. ⌜ Rewatched (watching (now (tops .entry)) (now (ratios .entry))) (now (places .entry)) (now (closed .entry)) field (now (waiting .entry)) (now (present .entry)) (now (waiting .exit)) (now (present .exit)) ⌝ }
+{
+    let waits = is_waiting(places, closed, tops, field);
+    waiting[field] = waits;
+    if waits {
+        present[field] = ratio_of(places, ratios, field);
+    }
+}
+
+// The same for each of the first fields.
+fn watch_all<'a>(
+    places: &'a [u8; 64],
+    closed: &'a [bool; 64],
+    tops: &[u8; 64],
+    ratios: &[f64; 1024],
+    end: usize,
+    waiting: &mut [bool; 64],
+    present: &mut [f64; 64],
+)
+    requires { ⌜ (end ≤ 64) × (length (now waiting) ≡ 64) × (length (now present) ≡ 64) ⌝ }
+    ensures { λ _. ⌜ Watched (watching (now (tops .entry)) (now (ratios .entry))) (now (places .entry)) (now (closed .entry)) end (now (waiting .exit)) (now (present .exit)) ⌝ }
+{
+    let mut field: usize = 0;
+    while field < end {
+        watch(places, closed, tops, ratios, field, waiting, present);
+        field = field + 1;
+    }
+}
+
+// The candidate among the fields, by what is kept of them.
+fn candidate_among(waiting: &[bool; 64], present: &[f64; 64], end: usize) -> Candidate
+    requires { ⌜ end ≤ 64 ⌝ }
+    ensures { λ r. ⌜ r ≡ scanned (now (waiting .entry)) (now (present .entry)) end ⌝ }
+{
+    let mut found = Candidate::Nobody;
+    let mut field: usize = 0;
+    while field < end {
+        if waiting[field] {
+            found = found.consider(field, present[field]);
         }
         field = field + 1;
     }
@@ -183,13 +247,18 @@ impl Run {
         ensures { λ r. ⌜ Onward self (ended (lent fields (now (tops .entry)) (now (ratios .entry)) (now (charges .entry))) self) r ⌝ }
     {
         let mut run = self;
+        let end = considered(fields);
+        let mut waiting = [false; 64];
+        let mut present = [0.0; 64];
+        watch_all(&run.places, &run.closed, tops, ratios, end, &mut waiting, &mut present);
         loop {
-            let found = best(&run.places, &run.closed, fields, tops, ratios);
+            let found = candidate_among(&waiting, &present, end);
             let Candidate::Field(field, _) = found else {
                 return run;
             };
             let price = price_of(&run.places, charges, field);
             run = run.taken(field, price);
+            watch(&run.places, &run.closed, tops, ratios, field, &mut waiting, &mut present);
         }
     }
 }

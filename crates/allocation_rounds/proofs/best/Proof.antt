@@ -18,8 +18,11 @@ Inv-loop places closed fields tops ratios end found₀ field₀ found field =
 abbrev μ-loop : tie.MeasureT-loop
 μ-loop places closed fields tops ratios end found₀ field₀ found field = end - field
 
+considered-requires : tie.Need-considered-requires Inv-loop μ-loop
+considered-requires c κs = search needs
+
 loop-holds : tie.Need-loop-holds Inv-loop μ-loop
-loop-holds c = (search needs, ⊎-elim (λ w. omega arith) (λ w. omega arith) (c .if1 .came), λ charges. refl)
+loop-holds c = (search needs, c .considered .ensures, λ charges. refl)
 
 is-waiting-requires : tie.Need-is-waiting-requires Inv-loop μ-loop
 is-waiting-requires c κs = search needs
@@ -29,7 +32,7 @@ ratio-of-requires c κs =
     let w = c .before in
     let l = w .before .before in
     let a = l .before .before .args in
-    let low = met-low (lent 64 (a .tops .now) [] []) (a .places .now) (a .closed .now) (l .loop .field) _ (w .is-waiting .ensures) (c .if2 .taken) in
+    let low = met-low (lent 64 (a .tops .now) [] []) (a .places .now) (a .closed .now) (l .loop .field) _ (w .is-waiting .ensures) (c .if1 .taken) in
     (search needs, omega arith)
 
 consider-requires : tie.Need-consider-requires Inv-loop μ-loop
@@ -55,7 +58,7 @@ loop-again c =
           _ (inv .2 charges) _ _ (w .0 .taken) (w .1 .ensures) _ (w .2 .ensures) (w .3))
           (λ w. best-over (lent (a .fields) (a .tops .now) (a .ratios .now) charges) (a .places .now) (a .closed .now) (l .loop .field) _ e
           _ (inv .2 charges) _ (w .0 .left) (w .1))
-          (c .if2 .came),
+          (c .if1 .came),
     )
 
 returns : tie.Need-returns Inv-loop μ-loop
@@ -69,6 +72,7 @@ best-spec =
     (tie.spec
     Inv-loop
     μ-loop
+    considered-requires
     loop-holds
     is-waiting-requires
     ratio-of-requires
