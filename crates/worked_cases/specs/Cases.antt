@@ -1,0 +1,125 @@
+-- Worked cases: answers found by hand, in one table, and the claim that the definitions give them.
+use Prim.Native.Nat.{ℕ}
+use mathlib.Core.Path.{_≡_}
+use mathlib.Core.Bool.{Bool, true, false}
+use mathlib.Core.List.{List, [], _∷_, map}
+use lib.Ieee.{Float}
+use lib.ListN.{length, replicate}
+use Rattle.tables.specs.Decimal.{decimal}
+use Rattle.header.specs.declared.FrameHeader.{FrameHeader}
+use Rattle.header.specs.declared.Mode.{Mode}
+use Rattle.header.specs.declared.Mode.the-variants.{Stereo, JointStereo, SingleChannel}
+use Rattle.header.specs.declared.ModeExtension.the-variants.{Bound4}
+use Rattle.bitalloc.specs.declared.BitAllocTable.{BitAllocTable}
+use Rattle.bitalloc.specs.declared.BitAllocTable.the-variants.{B2a, B2b, B2c}
+use Rattle.encoder_scalefactors.specs.Indices.{pickOf}
+use Rattle.encoder_scfsi.specs.Select.{selection}
+use Rattle.encoder_bit_budget.specs.Budget.{BudgetAnswer, budgetOf, fixedIn}
+use Rattle.encoder_bit_allocator.specs.declared.Allocation.{Allocation}
+use Rattle.encoder_bit_allocator.specs.Allocation.{allocationOf}
+
+-- ---- what is asked, and what is answered
+
+pub data Question : Type 0 where
+  -- the budget of a header
+  budget : FrameHeader → Question
+  -- the allocation of a header, with one signal-to-mask ratio for every slot and so many ancillary bits
+  allocation : FrameHeader → Float → ℕ → Question
+  -- the indices used for three scalefactor indices
+  used : ℕ → ℕ → ℕ → Question
+  -- the scalefactor index of a largest magnitude
+  index : Float → Question
+
+pub data Answer : Type 0 where
+  -- of a budget: the answer's number, the table, the bits of the frame, the fixed ones of them
+  budgeted : ℕ → BitAllocTable → ℕ → ℕ → Answer
+  -- of an allocation: the answer's number, the steps of the slots, the bits left; the bits of the frame, the fixed and the ancillary ones
+  allocated : ℕ → List ℕ → ℕ → ℕ → ℕ → ℕ → Answer
+  -- scalefactor indices
+  indices : List ℕ → Answer
+
+abbrev ofBudget : BudgetAnswer → Answer
+ofBudget a = budgeted (a .answer) (a .budget .table) (a .budget .cb) (fixedIn (a .budget))
+
+abbrev ofAllocation : Allocation → Answer
+ofAllocation a = allocated (a .number) (a .audio .«nb_steps») (a .left) (a .cb) (a .fixed) (a .banc)
+
+-- the answer by the definitions
+unfoldable pub answerTo : Question → Answer
+answerTo (budget h) = ofBudget (budgetOf h)
+answerTo (allocation h smr banc) = ofAllocation (allocationOf h (replicate 2 (replicate 32 smr)) banc)
+answerTo (used a b c) = indices (selection a b c .used)
+answerTo (index x) = indices (pickOf x ∷ [])
+
+-- ---- the table
+
+pub record Case : Type 0 where
+  pub asked : Question
+  pub expected : Answer
+
+abbrev case : Question → Answer → Case
+case q a = record { asked = q; expected = a }
+
+-- a header without padding; in joint stereo the bound is 4
+abbrev frame : Bool → ℕ → ℕ → Mode → Bool → FrameHeader
+frame lsf hz rate mode noCrc = record {
+  lsf = lsf;
+  «bit_rate» = rate;
+  «sample_rate» = hz;
+  padding = false;
+  mode = mode;
+  «mode_extension» = Bound4;
+  «protection_bit» = noCrc
+}
+
+-- 48000 Hz, single channel, 32000 bit/s, with a CRC and without
+abbrev mono : FrameHeader
+mono = frame false 48_000 32_000 SingleChannel false
+
+abbrev monoNoCrc : FrameHeader
+monoNoCrc = frame false 48_000 32_000 SingleChannel true
+
+-- slots without steps
+abbrev none : ℕ → List ℕ
+none slots = replicate slots 0
+
+unfoldable pub cases : List Case
+unfolding decimal
+cases =
+    -- single channel at 48000 Hz and 32000 bit/s with a CRC: table B2c, 768 bits, 74 of them fixed
+    case (budget mono) (budgeted 0 B2c 768 74)
+    -- 694 ancillary bits beside them fill the frame: no slot has steps, at 0 dB or at 96
+    ∷ case (allocation mono (decimal 1 0_0) 694) (allocated 0 (none 64) 0 0 0 0)
+    ∷ case (allocation mono (decimal 1 96_0) 694) (allocated 0 (none 64) 0 0 0 0)
+    -- 695 do not fit: answer 4 with the three numbers
+    ∷ case (allocation mono (decimal 1 0_0) 695) (allocated 4 (none 64) 0 768 74 695)
+    -- without a CRC, every ratio 0 dB, 630 ancillary bits: the 80 bits left buy subband 0 its first step
+    ∷ case (allocation monoNoCrc (decimal 1 0_0) 630) (allocated 0 (3 ∷ none 63) 0 0 0 0)
+    -- with 631 the 79 bits left buy none
+    ∷ case (allocation monoNoCrc (decimal 1 0_0) 631) (allocated 0 (none 64) 79 0 0 0)
+    -- joint stereo with bound 4 at 44100 Hz and 192000 bit/s without a CRC: table B2b, 626 bytes, 142 bits fixed
+    ∷ case (budget (frame false 44_100 192_000 JointStereo true)) (budgeted 0 B2b 5008 142)
+    -- stereo at 44100 Hz and 193000 bit/s: an odd number of kbit/s selects no table
+    ∷ case (budget (frame false 44_100 193_000 Stereo true)) (budgeted 1 B2a 0 0)
+    -- a sample rate of 0 at 32000 bit/s: with LSF there is a table and the sample rate is refused, without there is no table
+    ∷ case (budget (frame true 0 32_000 SingleChannel true)) (budgeted 2 B2a 0 0)
+    ∷ case (budget (frame false 0 32_000 SingleChannel true)) (budgeted 1 B2a 0 0)
+    -- the scalefactor indices 10, 12, 11 become one; 0, 3, 3 stay; 0, 2, 4 become the smallest
+    ∷ case (used 10 12 11) (indices (10 ∷ 10 ∷ 10 ∷ []))
+    ∷ case (used 0 3 3) (indices (0 ∷ 3 ∷ 3 ∷ []))
+    ∷ case (used 0 2 4) (indices (0 ∷ 0 ∷ 0 ∷ []))
+    -- a maximum of 1.0 has the scalefactor index 3, one of 0.0 the last
+    ∷ case (index (decimal 1 1_0)) (indices (3 ∷ []))
+    ∷ case (index (decimal 1 0_0)) (indices (62 ∷ []))
+    ∷ []
+
+-- ---- the claim
+
+-- the definitions give what is expected, row by row
+unfoldable pub Hold : List Case → Type 0
+Hold cs = map (λ c. answerTo (c .asked)) cs ≡ map (λ c. c .expected) cs
+
+-- what `count` promises
+pub record CasesHold (r : ℕ) : Type 0 where
+  pub whole : r ≡ length cases
+  pub hold : Hold cases
