@@ -1,10 +1,10 @@
--- The search for the last multiplier that covers, as the code makes it from the end; and what the index of a granule is worth.
+-- The search for the last multiplier that covers, as the code makes it by halves; and what the index of a granule is worth.
 use mathlib.Core.Path.{_≡_, refl, sym, ap, ap₂, _∙_, subst}
-use mathlib.Core.Bool.{Bool, true, false}
+use mathlib.Core.Bool.{Bool, true, false, true≢false}
 use mathlib.Core.Logic.{_⊎_, inl, inr, ⊎-elim}
 use mathlib.Core.List.{List, [], _∷_}
 use Prim.Native.Nat.{ℕ, zero, suc, _+_, _-_, _*_, _≤_, _<_}
-use native.Mathlib.Nat.{le-of-suc-le-suc, not-suc-le-zero, eq-or-lt-of-le, le-trans, le-suc, lt-suc-self}
+use native.Mathlib.Nat.{le-of-suc-le-suc, not-suc-le-zero, eq-or-lt-of-le, le-trans, le-suc, lt-suc-self, zero-lt-suc}
 use native.Mathlib.Numerals.{add-one}
 use native.Mathlib.Omega.{arith}
 use lib.Dec.{T, lit≤, lit<}
@@ -18,7 +18,8 @@ use Rattle.tables.proofs.Listed.{listed}
 use Rattle.tables.proofs.Rule.{allBelow, below}
 use Rattle.tables.proofs.Search.{last-found, last-missing, last-told, Told}
 use Rattle.ieee_order.specs.Order.{absOf, maxOf}
-use Rattle.ieee_order.proofs.Order.{float-trans, float-not-le, float-clash, le-numbers}
+use Rattle.tables.proofs.Descent.{descends}
+use Rattle.ieee_order.proofs.Order.{float-trans, float-lt-le, float-not-le, float-clash, le-numbers}
 use Rattle.ieee_order.proofs.Extremes.{max-keeps, max-picks, max-and-nan, max-number, le-max-first, le-max-second}
 use Rattle.ieee_order.proofs.Magnitude.{abs-nan}
 use Rattle.encoder_scalefactors.specs.Indices.{covers, multiplier, pickOf, orFirst, largest, indexFrom, indexAt, granuleOf, indicesOf, PickIs, IndexIs, Covering}
@@ -27,37 +28,43 @@ count : length scalefactors ≡ 63
 unfolding scalefactors
 count = refl
 
--- ---- the search from the end
+-- ---- the search by halves
 
-pub pick-at : (x : Float) (table : List Float) (i : ℕ) → table ≡ scalefactors → i < 63
-  → ((k : ℕ) → i < k → k < 63 → le x (getD table k nan) ≡ false) → le x (getD table i nan) ≡ true → PickIs x i
+-- what does not cover has no larger one behind it
+pub not-behind : (x : Float) (table : List Float) (i : ℕ) → table ≡ scalefactors → le x (getD table i nan) ≡ false
+  → (k : ℕ) → i ≤ k → k < 63 → le x (getD table k nan) ≡ false
+not-behind x table i e c k l h = ⊎-elim (λ q. subst (λ (j : ℕ). le x (getD table j nan) ≡ false) q c) (λ m. go (le x (getD table k nan)) refl m) (eq-or-lt-of-le l)
+  where
+    go : (b : Bool) → le x (getD table k nan) ≡ b → i < k → b ≡ false
+    go false q m = refl
+    go true q m =
+        let d : T (lt (getD table k nan) (getD table i nan)) = rw e (descends i k m (rw count h)) in
+        absurd (subst T c (float-trans x (getD table k nan) (getD table i nan) (subst T (sym q) tt) (float-lt-le _ _ d)))
+
+-- the two have met: `low` covers, or is the first, and nothing behind it covers
+pub pick-found : (x : Float) (table : List Float) (low high : ℕ) → table ≡ scalefactors → low < 63 → high ≤ low + 1
+  → (0 < low → le x (getD table low nan) ≡ true) → ((k : ℕ) → high ≤ k → k < 63 → le x (getD table k nan) ≡ false) → PickIs x low
 unfolding pickOf
-pick-at x table i e h b c =
-    let b′ = rw e at b in
-    let c′ = rw e at c in
-    record {
-      whole = sym (ap orFirst (last-found (covers x) scalefactors i nan (rw count h) (λ k g l. b′ k g (rw count at l)) c′));
+pick-found x table low high e h m c b = go (le x (getD table low nan)) refl
+  where
+    behind : (k : ℕ) → low < k → k < length scalefactors → le x (getD scalefactors k nan) ≡ false
+    behind k g l =
+        let l′ : k < 63 = rw count at l in
+        subst (λ (t : List Float). le x (getD t k nan) ≡ false) e (b k (omega arith) l′)
+    go : (v : Bool) → le x (getD table low nan) ≡ v → PickIs x low
+    go true q = record {
+      whole = sym (ap orFirst (last-found (covers x) scalefactors low nan (rw count h) behind (rw e at q)));
       small = omega arith
     }
-
-pub pick-first : (x : Float) (table : List Float) → table ≡ scalefactors → ((k : ℕ) → 0 < k → k < 63 → le x (getD table k nan) ≡ false) → PickIs x 0
-unfolding pickOf
-pick-first x table e b = go (le x (getD table 0 nan)) refl
-  where
-    every : le x (getD table 0 nan) ≡ false → (k : ℕ) → k < 63 → le x (getD table k nan) ≡ false
-    every q zero h = q
-    every q (suc k) h = b (suc k) (omega arith) h
-    go : (v : Bool) → le x (getD table 0 nan) ≡ v → PickIs x 0
-    go true q = pick-at x table 0 e (lit< tt) b q
-    go false q =
-        let b′ = rw e at (every q) in
-        record { whole = sym (ap orFirst (last-missing (covers x) scalefactors nan (λ k l. b′ k (rw count at l)))); small = lit≤ tt }
-
--- one multiplier more that does not cover
-pub one-more : (x : Float) (table : List Float) (i : ℕ) → 0 < i → ((k : ℕ) → i < k → k < 63 → le x (getD table k nan) ≡ false)
-  → le x (getD table i nan) ≡ false → (k : ℕ) → i - 1 < k → k < 63 → le x (getD table k nan) ≡ false
-one-more x table i p b e k g h =
-    ⊎-elim (λ q. subst (λ (j : ℕ). le x (getD table j nan) ≡ false) q e) (λ m. b k m h) (eq-or-lt-of-le (let l : i ≤ k = omega arith in l))
+    go false q = first low refl
+      where
+        first : (n : ℕ) → low ≡ n → PickIs x low
+        first (suc n) z = absurd (true≢false (sym (c (rw z (zero-lt-suc n))) ∙ q))
+        first zero z = record {
+          whole = z ∙ sym (ap orFirst (last-missing (covers x) scalefactors nan (λ k l. let l′ : k < 63 = rw count at l in
+            subst (λ (t : List Float). le x (getD t k nan) ≡ false) e (not-behind x table low e q k (omega arith) l′))));
+          small = omega arith
+        }
 
 -- ---- what the index found for a magnitude says: where any multiplier covers it, the index's does; the next never does
 

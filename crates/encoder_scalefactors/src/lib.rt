@@ -2,6 +2,7 @@
 ghost use mathlib.Core.Path.{_≡_};
 ghost use Prim.Native.Nat.{_+_, _<_, _≤_};
 ghost use lib.ListN.{length};
+ghost use Rattle.tables.specs.Scalefactors.{scalefactors};
 ghost use Rattle.encoder_scalefactors.specs.Indices.{indexAt, granuleOf, indicesOf, PickIs, IndexIs};
 
 // Granules of a frame, samples of a granule, and samples of a subband in a frame.
@@ -14,62 +15,75 @@ pub fn pick_scalefactor_index(max_abs: f64) -> u8
     ensures { λ r. ⌜ PickIs «max_abs» r ⌝ }
 {
     let table = tables::scalefactors();
-    let mut i: u8 = 62;
-    while i > 0 {
-        if table[i as usize] >= max_abs {
-            return i;
+    pick_in(&table, max_abs)
+}
+
+// The same in the table that is lent. The multipliers descend: those that cover `max_abs` stand below those that do not.
+fn pick_in(table: &[f64; 63], max_abs: f64) -> u8
+    requires { ⌜ now table ≡ scalefactors ⌝ }
+    ensures { λ r. ⌜ PickIs «max_abs» r ⌝ }
+{
+    let mut low: usize = 0;
+    let mut high: usize = 63;
+    while low + 1 < high {
+        let middle = (low + high) / 2;
+        if table[middle] >= max_abs {
+            low = middle;
+        } else {
+            high = middle;
         }
-        i = i - 1;
     }
-    0
+    low as u8
 }
 
 // The index of a granule's twelve samples.
 pub fn extract_scalefactor_index(samples: &[f64; 12]) -> u8
     ensures { λ r. ⌜ IndexIs (now (samples .entry)) 0 r ⌝ }
 {
-    index_from(samples, 0)
+    let table = tables::scalefactors();
+    index_from(&table, samples, 0)
 }
 
 // The indices of a frame's samples, by granule and subband. Subbands from `sblimit` on have no samples to code, and the last index.
 pub fn compute_scalefactors(subband_samples: &[[f64; 36]; 32], sblimit: usize) -> [[u8; 32]; 3]
     ensures { λ r. ⌜ r ≡ indicesOf (now («subband_samples» .entry)) sblimit ⌝ }
 {
-    let first = granule(subband_samples, sblimit, 0);
-    let second = granule(subband_samples, sblimit, 1);
-    let third = granule(subband_samples, sblimit, 2);
+    let table = tables::scalefactors();
+    let first = granule(&table, subband_samples, sblimit, 0);
+    let second = granule(&table, subband_samples, sblimit, 1);
+    let third = granule(&table, subband_samples, sblimit, 2);
     [first, second, third]
 }
 
 // The indices of one granule, by subband.
-fn granule(subband_samples: &[[f64; 36]; 32], sblimit: usize, g: usize) -> [u8; 32]
-    requires { ⌜ g < 3 ⌝ }
+fn granule(table: &[f64; 63], subband_samples: &[[f64; 36]; 32], sblimit: usize, g: usize) -> [u8; 32]
+    requires { ⌜ (now table ≡ scalefactors) × (g < 3) ⌝ }
     ensures { λ r. ⌜ r ≡ granuleOf (now («subband_samples» .entry)) sblimit g ⌝ }
 {
     let mut indices = [62u8; 32];
     let mut sb: usize = 0;
     while sb < 32 {
-        indices[sb] = index_at(subband_samples, sblimit, g, sb);
+        indices[sb] = index_at(table, subband_samples, sblimit, g, sb);
         sb = sb + 1;
     }
     indices
 }
 
 // The index of one granule of one subband.
-fn index_at(subband_samples: &[[f64; 36]; 32], sblimit: usize, g: usize, sb: usize) -> u8
-    requires { ⌜ (g < 3) × (sb < 32) ⌝ }
+fn index_at(table: &[f64; 63], subband_samples: &[[f64; 36]; 32], sblimit: usize, g: usize, sb: usize) -> u8
+    requires { ⌜ (now table ≡ scalefactors) × (g < 3) × (sb < 32) ⌝ }
     ensures { λ r. ⌜ r ≡ indexAt (now («subband_samples» .entry)) sblimit g sb ⌝ }
 {
     if sb < sblimit {
-        index_from(&subband_samples[sb], 12 * g)
+        index_from(table, &subband_samples[sb], 12 * g)
     } else {
         62
     }
 }
 
 // The index of the twelve samples from `start` on.
-fn index_from(samples: &[f64], start: usize) -> u8
-    requires { ⌜ start + 12 ≤ length (now samples) ⌝ }
+fn index_from(table: &[f64; 63], samples: &[f64], start: usize) -> u8
+    requires { ⌜ (now table ≡ scalefactors) × (start + 12 ≤ length (now samples)) ⌝ }
     ensures { λ r. ⌜ IndexIs (now (samples .entry)) start r ⌝ }
 {
     let mut max_abs: f64 = 0.0;
@@ -78,5 +92,5 @@ fn index_from(samples: &[f64], start: usize) -> u8
         max_abs = ieee_order::max(max_abs, ieee_order::abs(samples[start + k]));
         k = k + 1;
     }
-    pick_scalefactor_index(max_abs)
+    pick_in(table, max_abs)
 }

@@ -11,10 +11,10 @@ use Rattle.encoder_scalefactors.proofs.granule.Statement.{statement}
 use Rattle.encoder_scalefactors.proofs.granule.Tie as tie
 
 abbrev Inv-loop : tie.InvT-loop
-Inv-loop subband-samples sblimit g indices₀ sb₀ indices sb = (sb ≤ 32) × ((length indices ≡ 32) × ((k : ℕ) → k < sb → getD indices k 0 ≡ indexAt subband-samples sblimit g k))
+Inv-loop table subband-samples sblimit g indices₀ sb₀ indices sb = (sb ≤ 32) × ((length indices ≡ 32) × ((k : ℕ) → k < sb → getD indices k 0 ≡ indexAt subband-samples sblimit g k))
 
 abbrev μ-loop : tie.MeasureT-loop
-μ-loop subband-samples sblimit g indices₀ sb₀ indices sb = 32 - sb
+μ-loop table subband-samples sblimit g indices₀ sb₀ indices sb = 32 - sb
 
 loop-holds : tie.Need-loop-holds Inv-loop μ-loop
 loop-holds c = search needs

@@ -13,10 +13,10 @@ use Rattle.encoder_scalefactors.proofs.index_from.Statement.{statement}
 use Rattle.encoder_scalefactors.proofs.index_from.Tie as tie
 
 abbrev Inv-loop : tie.InvT-loop
-Inv-loop samples start max-abs₀ k₀ max-abs k = (k ≤ 12) × (max-abs ≡ largest samples start k)
+Inv-loop table samples start max-abs₀ k₀ max-abs k = (k ≤ 12) × (max-abs ≡ largest samples start k)
 
 abbrev μ-loop : tie.MeasureT-loop
-μ-loop samples start max-abs₀ k₀ max-abs k = 12 - k
+μ-loop table samples start max-abs₀ k₀ max-abs k = 12 - k
 
 loop-holds : tie.Need-loop-holds Inv-loop μ-loop
 unfolding largest ofBits
@@ -46,15 +46,15 @@ loop-less c = search needs
 loop-again : tie.Need-loop-again Inv-loop μ-loop
 loop-again c = (search needs, largest-more _ _ _ _ _ _ (c .before .before .before .before .loop .inv .1) (c .before .abs .ensures) (c .max .ensures))
 
-pick-scalefactor-index-requires : tie.Need-pick-scalefactor-index-requires Inv-loop μ-loop
-pick-scalefactor-index-requires c κs = search needs
+pick-in-requires : tie.Need-pick-in-requires Inv-loop μ-loop
+pick-in-requires c κs = search needs
 
 returns : tie.Need-returns Inv-loop μ-loop
 returns c =
     let b = c .before in
     let a = b .before .before .before .args in
     let k : b .before .loop .k ≡ 12 = (let h = b .before .loop .inv .0 in let t = b .loop-test .left in omega arith) in
-    index-is _ _ _ _ (b .before .loop .inv .1 ∙ ap (largest (a .samples .now) (a .start)) k) (c .pick-scalefactor-index .ensures)
+    index-is _ _ _ _ (b .before .loop .inv .1 ∙ ap (largest (a .samples .now) (a .start)) k) (c .pick-in .ensures)
 
 pub index-from-spec : {M : Type 1} → statement M
 index-from-spec =
@@ -71,5 +71,5 @@ index-from-spec =
     add-k
     loop-less
     loop-again
-    pick-scalefactor-index-requires
+    pick-in-requires
     returns)
