@@ -1,4 +1,4 @@
-// Lines of headers: their tables, the bits of their frames, and what ratios demand.
+// Lines of headers: their tables and the bits of their frames, and what ratios demand.
 use crate::show;
 use bitalloc::BitAllocTable;
 use bitalloc::OptionTable;
@@ -8,10 +8,10 @@ use header::FrameSize;
 use header::Mode;
 use header::ModeExtension;
 
-// A header of ISO/IEC 11172-3 without CRC and padding.
-fn frame(sample_rate: u32, bit_rate: u32, mode: Mode) -> FrameHeader {
+// A header without CRC and padding.
+fn frame(lsf: bool, sample_rate: u32, bit_rate: u32, mode: Mode) -> FrameHeader {
     FrameHeader {
-        lsf: false,
+        lsf,
         bit_rate,
         sample_rate,
         padding: false,
@@ -21,65 +21,54 @@ fn frame(sample_rate: u32, bit_rate: u32, mode: Mode) -> FrameHeader {
     }
 }
 
-pub fn stereo() {
-    let header = frame(44_100, 192_000, Mode::Stereo);
-    show::letter(
-        b"44100 Hz, stereo, 192000 bit/s, no CRC, no padding: table B2",
-        b'b',
-        letter_of(bitalloc::select_table(header)),
+pub fn accepted() {
+    io::write_all(
+        1,
+        b"no CRC, no padding: answer, table (1 to 5: B2a, B2b, B2c, B2d, B1Lsf), bytes, fixed bits, bits offered\n",
     );
-    let answered = [bytes(header), fixed_bits(header), offered(header)];
-    show::numbers(b"its bytes, fixed bits, bits offered beside no ancillary bits:", &[626, 220, 4788], &answered);
-    let joint = frame(44_100, 192_000, Mode::JointStereo);
-    let answered = [fixed_bits(joint)];
-    show::numbers(b"the same in joint stereo with bound 4, fixed bits:", &[142], &answered);
-}
-
-pub fn mono() {
-    let header = frame(48_000, 64_999, Mode::SingleChannel);
-    show::letter(
-        b"48000 Hz, single channel, 64999 bit/s: table B2",
-        b'a',
-        letter_of(bitalloc::select_table(header)),
-    );
-    let answered = [bytes(header)];
-    show::numbers(b"its bytes:", &[194], &answered);
+    let stereo = answers(frame(false, 44_100, 192_000, Mode::Stereo));
+    show::numbers(b"44100 Hz, stereo, 192000 bit/s:", &[0, 2, 626, 220, 4788], &stereo);
+    let joint = answers(frame(false, 44_100, 192_000, Mode::JointStereo));
+    show::numbers(b"in joint stereo with bound 4:", &[0, 2, 626, 142, 4866], &joint);
+    let mono = answers(frame(false, 48_000, 64_999, Mode::SingleChannel));
+    show::numbers(b"48000 Hz, single channel, 64999 bit/s:", &[0, 1, 194, 120, 1432], &mono);
 }
 
 pub fn refused() {
-    let odd = frame(44_100, 193_000, Mode::Stereo);
-    let mut stopped = frame(0, 32_000, Mode::SingleChannel);
-    let without = answer(stopped);
-    stopped.lsf = true;
-    let answered = [answer(odd), without, answer(stopped)];
-    show::numbers(
-        b"answer at 44100 Hz, stereo, 193000 bit/s; at sample rate 0 and 32000 bit/s, without LSF and with:",
-        &[1, 1, 2],
-        &answered,
-    );
+    let odd = answers(frame(false, 44_100, 193_000, Mode::Stereo));
+    show::numbers(b"44100 Hz, stereo, 193000 bit/s:", &[1, 0, 630, 0, 0], &odd);
+    let lsf = answers(frame(true, 0, 32_000, Mode::SingleChannel));
+    show::numbers(b"0 Hz, single channel, 32000 bit/s, LSF:", &[2, 5, 0, 0, 0], &lsf);
+    let no_rate = answers(frame(false, 0, 32_000, Mode::SingleChannel));
+    show::numbers(b"without LSF:", &[1, 0, 0, 0, 0], &no_rate);
 }
 
-// The answer's number.
-fn answer(header: FrameHeader) -> u64 {
+// The answer's number, the table's, the bytes of the frame, its fixed bits and the bits offered beside no ancillary ones.
+fn answers(header: FrameHeader) -> [u64; 5] {
     let budget = encoder_bit_budget::fixed_bit_budget(header);
-    budget.refusal() as u64
+    let available = encoder_bit_budget::available_data_bits(header, 0);
+    [
+        budget.refusal() as u64,
+        table_number(bitalloc::select_table(header)),
+        bytes(header),
+        fixed_bits(budget),
+        not_below_zero(available.bits),
+    ]
 }
 
-// The letter of a table of ISO/IEC 11172-3.
-fn letter_of(found: OptionTable) -> u8 {
+fn table_number(found: OptionTable) -> u64 {
     let OptionTable::Some(table) = found else {
-        return b'-';
+        return 0;
     };
     match table {
-        BitAllocTable::B2a => b'a',
-        BitAllocTable::B2b => b'b',
-        BitAllocTable::B2c => b'c',
-        BitAllocTable::B2d => b'd',
-        BitAllocTable::B1Lsf => b'-',
+        BitAllocTable::B2a => 1,
+        BitAllocTable::B2b => 2,
+        BitAllocTable::B2c => 3,
+        BitAllocTable::B2d => 4,
+        BitAllocTable::B1Lsf => 5,
     }
 }
 
-// The frame's bytes; 0 where there are none.
 fn bytes(header: FrameHeader) -> u64 {
     let size = header.frame_size_bytes();
     let FrameSize::Bytes(n) = size else {
@@ -88,20 +77,11 @@ fn bytes(header: FrameHeader) -> u64 {
     n
 }
 
-// The fixed bits; 0 where the header is refused.
-fn fixed_bits(header: FrameHeader) -> u64 {
-    let budget = encoder_bit_budget::fixed_bit_budget(header);
+fn fixed_bits(budget: Budget) -> u64 {
     let Budget::Ok(b) = budget else {
         return 0;
     };
     b.fixed()
-}
-
-// The bits offered; 0 where they are below.
-fn offered(header: FrameHeader) -> u64 {
-    let available = encoder_bit_budget::available_data_bits(header, 0);
-    let bits = available.bits;
-    not_below_zero(bits)
 }
 
 fn not_below_zero(bits: i64) -> u64 {
@@ -115,7 +95,7 @@ pub fn demands() {
 
 // The demand of a frame with table B2c whose first subband has the ratio and whose others have 0 dB.
 fn demand(smr: f64) -> u64 {
-    let header = frame(48_000, 32_000, Mode::SingleChannel);
+    let header = frame(false, 48_000, 32_000, Mode::SingleChannel);
     let mut first = [0.0; 32];
     first[0] = smr;
     let answer = encoder_bit_budget::demand_bits(header, [first, [0.0; 32]]);

@@ -1,17 +1,9 @@
 // How a line is printed: the question, the answers, and a remark where they are not the expected ones.
 
-// Answers that are numbers.
 pub fn numbers(question: &[u8], expected: &[u64], answered: &[u64]) {
     io::write_all(1, question);
     print_all(answered);
     end_line(same(expected, answered));
-}
-
-// An answer that is a letter.
-pub fn letter(question: &[u8], expected: u8, answered: u8) {
-    io::write_all(1, question);
-    io::write_all(1, &[answered]);
-    end_line(answered == expected);
 }
 
 fn print_all(numbers: &[u64]) {
