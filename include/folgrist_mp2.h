@@ -1,0 +1,179 @@
+/*
+ * Folgrist: the decisions of an MPEG Audio Layer II encoder (ISO/IEC 11172-3, ISO/IEC 13818-3), from subband samples to sample codes.
+ *
+ * Link with libfolgrist_mp2.a (`rt staticlib folgrist_mp2`). The library keeps no state, allocates no memory and calls nothing.
+ *
+ * Answers. A function returns the number of its answer, FOLGRIST_ACCEPTED or one of the others below, unless it is said to return a value.
+ *
+ * Slices. An array is two arguments, a pointer and its length in elements. A length below the one that the function's comment names is
+ * answered FOLGRIST_SHORT_SLICE. A longer array is fine: what is behind the named length is neither read nor written. The pointer has to be
+ * valid for the length given, and an array that is written may not overlap another. The pointer may not be null, even of length 0.
+ *
+ * Order. FOLGRIST_SHORT_SLICE is asked first, then FOLGRIST_BAD_ARGUMENT, then FOLGRIST_NOTHING_THERE; with these three nothing is written.
+ * With any other number everything is written: beside a number that is not 0 stand zeros, but for what the comment says.
+ *
+ * Header. Seven arguments, the same in each function that has them:
+ *   lsf             0, or 1 for the low sampling frequencies of ISO/IEC 13818-3
+ *   bit_rate        in bit/s; 0 is free format
+ *   sample_rate     in Hz
+ *   padding         0, or 1 for one more byte
+ *   protection_bit  as on the wire: 0 where a CRC follows the header, 1 where none does
+ *   mode            enum folgrist_mode
+ *   mode_extension  enum folgrist_mode_extension; read in joint stereo only, but checked in every mode
+ * Any rates are taken. A flag above 1, a mode or an extension above 3 is answered FOLGRIST_BAD_ARGUMENT.
+ *
+ * Slots. A slot is one channel of one subband, numbered 32 * channel + subband: 64 slots, those of channel 0 first.
+ */
+#ifndef FOLGRIST_MP2_H
+#define FOLGRIST_MP2_H
+
+#include <stddef.h>
+#include <stdint.h>
+
+#ifdef __cplusplus
+extern "C" {
+#endif
+
+/* The numbers of answers. */
+enum folgrist_answer {
+    FOLGRIST_ACCEPTED = 0,
+    FOLGRIST_NO_TABLE = 1,           /* no allocation table covers the header's rates */
+    FOLGRIST_ZERO_SAMPLE_RATE = 2,   /* the sample rate is 0 */
+    FOLGRIST_FRAME_TOO_LARGE = 3,    /* the bits of the frame do not fit 32 bits */
+    FOLGRIST_INSUFFICIENT_FRAME = 4, /* the fixed bits and the caller's are more than the frame has */
+    FOLGRIST_NO_CLASS = 5,           /* the steps are none of the seventeen classes of quantization */
+    FOLGRIST_BAD_ARGUMENT = 14,      /* a flag above 1, a mode or extension above 3, a table above 4 */
+    FOLGRIST_NOTHING_THERE = 97,     /* a place outside the row, or steps that the row does not have */
+    FOLGRIST_SHORT_SLICE = 98        /* an array is shorter than the function asks */
+};
+
+enum folgrist_mode {
+    FOLGRIST_STEREO = 0,
+    FOLGRIST_JOINT_STEREO = 1,
+    FOLGRIST_DUAL_CHANNEL = 2,
+    FOLGRIST_SINGLE_CHANNEL = 3
+};
+
+/* In joint stereo: from which subband on the channels share their samples. */
+enum folgrist_mode_extension {
+    FOLGRIST_BOUND_4 = 0,
+    FOLGRIST_BOUND_8 = 1,
+    FOLGRIST_BOUND_12 = 2,
+    FOLGRIST_BOUND_16 = 3
+};
+
+/* Tables 3-B.2a to d of ISO/IEC 11172-3, and Table B.1 of ISO/IEC 13818-3. */
+enum folgrist_table {
+    FOLGRIST_TABLE_B2A = 0,
+    FOLGRIST_TABLE_B2B = 1,
+    FOLGRIST_TABLE_B2C = 2,
+    FOLGRIST_TABLE_B2D = 3,
+    FOLGRIST_TABLE_B1_LSF = 4
+};
+
+/* Scalefactor selection information: its two-bit code. */
+enum folgrist_scfsi {
+    FOLGRIST_THREE_PER_GRANULE = 0, /* three indices, one for each granule */
+    FOLGRIST_SHARE_01_THEN_2 = 1,   /* two: granules 0 and 1 share, then granule 2 */
+    FOLGRIST_SHARE_ALL = 2,         /* one for all three */
+    FOLGRIST_SHARE_0_THEN_12 = 3    /* two: granule 0, then 1 and 2 share */
+};
+
+/* ---- the frame ---- */
+
+/* The allocation table that the header selects. out, 1 element: the table.
+ * Answers 0, 1 (out: 0), 14, 98. */
+uint32_t folgrist_select_table(uint8_t lsf, uint32_t bit_rate, uint32_t sample_rate, uint8_t padding, uint8_t protection_bit, uint8_t mode,
+                               uint8_t mode_extension, uint32_t *out, size_t out_len);
+
+/* The length of the header's frame. out, 1 element: bytes.
+ * Answers 0, 2, 14, 98. */
+uint32_t folgrist_frame_size_bytes(uint8_t lsf, uint32_t bit_rate, uint32_t sample_rate, uint8_t padding, uint8_t protection_bit,
+                                   uint8_t mode, uint8_t mode_extension, uint64_t *out, size_t out_len);
+
+/* The bits of the frame that are spent before any sample is coded. out, 8 elements: the bits of the frame (cb), of the header (bhdr), of the
+ * CRC (bcrc) and of the allocation fields (bbal); the number of subbands carried (sblimit); the subband from which on one allocation field
+ * serves both channels (bound); the number of channels; the table.
+ * Answers 0, 1, 2, 3, 14, 98. */
+uint32_t folgrist_fixed_bit_budget(uint8_t lsf, uint32_t bit_rate, uint32_t sample_rate, uint8_t padding, uint8_t protection_bit,
+                                   uint8_t mode, uint8_t mode_extension, uint32_t *out, size_t out_len);
+
+/* The bits that the frame offers to samples and scalefactors beside banc ancillary bits. out, 1 element: bits, which may be below 0.
+ * Answers 0, 1, 2, 3, 14, 98. */
+uint32_t folgrist_available_data_bits(uint8_t lsf, uint32_t bit_rate, uint32_t sample_rate, uint8_t padding, uint8_t protection_bit,
+                                      uint8_t mode, uint8_t mode_extension, uint32_t banc, int64_t *out, size_t out_len);
+
+/* The bits with which every allocation field has a mask-to-noise ratio of at least 0 dB or stands at its top place. smr_db, 64 elements by
+ * slot: signal-to-mask ratios in dB, any doubles; those of subbands and channels that the frame does not carry are not read. out, 1
+ * element: bits.
+ * Answers 0, 1, 2, 3, 14, 98. */
+uint32_t folgrist_demand_bits(uint8_t lsf, uint32_t bit_rate, uint32_t sample_rate, uint8_t padding, uint8_t protection_bit, uint8_t mode,
+                              uint8_t mode_extension, const double *smr_db, size_t smr_db_len, uint64_t *out, size_t out_len);
+
+/* The bit allocation. banc: ancillary bits set aside. smr_db, 64 elements: as above. steps, 64 elements by slot: the number of quantization
+ * steps, 0 where nothing is allocated. out, 4 elements: the bits left; and beside number 4 the bits of the frame, the fixed ones and banc,
+ * which are 0 beside every other number.
+ * Answers 0, 1, 2, 3, 4, 14, 98. */
+uint32_t folgrist_allocate_bits(uint8_t lsf, uint32_t bit_rate, uint32_t sample_rate, uint8_t padding, uint8_t protection_bit, uint8_t mode,
+                                uint8_t mode_extension, uint32_t banc, const double *smr_db, size_t smr_db_len, uint32_t *steps,
+                                size_t steps_len, uint32_t *out, size_t out_len);
+
+/* ---- the allocation tables ---- */
+
+/* What a table says of a subband. out, 2 elements: how many subbands the table carries (sblimit), and the bits of the subband's allocation
+ * field (nbal), 0 for a subband that the table does not carry.
+ * Answers 0, 14, 98. */
+uint32_t folgrist_table_limits(uint8_t table, uint64_t sb, uint32_t *out, size_t out_len);
+
+/* The number of steps at a place of a subband's row; place 0 has 0 steps. out, 1 element: steps.
+ * Answers 0, 14, 97 (the row has no such place), 98. */
+uint32_t folgrist_nb_steps(uint8_t table, uint64_t sb, uint32_t index, uint32_t *out, size_t out_len);
+
+/* The place of a subband's row that has these steps. out, 1 element: the place.
+ * Answers 0, 14, 97 (the row does not have them), 98. */
+uint32_t folgrist_allocation_index(uint8_t table, uint64_t sb, uint32_t steps, uint32_t *out, size_t out_len);
+
+/* The class of quantization of a number of steps (Table 3-B.4). cd, 2 elements: the coefficients C and D. out, 4 elements: 1 where three
+ * samples are grouped in one codeword, else 0; samples per codeword; bits per codeword; bits per sample.
+ * Answers 0, 5, 98. */
+uint32_t folgrist_class_of_quantization(uint32_t steps, double *cd, size_t cd_len, uint32_t *out, size_t out_len);
+
+/* Returns a value: the bits of a subband's 36 samples in a frame, 0 where there is no class of so many steps. */
+uint32_t folgrist_sample_bits_for(uint32_t steps);
+
+/* ---- scalefactors ---- */
+
+/* Returns a value: the last scalefactor index, 0 to 62, whose multiplier is at least max_abs; 0 where there is none, as for a NaN. */
+uint8_t folgrist_pick_scalefactor_index(double max_abs);
+
+/* The scalefactor index of a granule. samples, 12 elements; a NaN is skipped. out, 1 element: the index.
+ * Answers 0, 98. */
+uint32_t folgrist_extract_scalefactor_index(const double *samples, size_t samples_len, uint8_t *out, size_t out_len);
+
+/* The scalefactor indices of a frame, of one channel. samples, 1152 elements: 36 of each subband, those of subband 0 first. limit: how many
+ * subbands are coded, at most 32 of them; the others have index 62. out, 96 elements: the indices of the 32 subbands in granule 0, then in
+ * granule 1, then in granule 2.
+ * Answers 0, 98. */
+uint32_t folgrist_compute_scalefactors(const double *samples, size_t samples_len, uint64_t limit, uint8_t *out, size_t out_len);
+
+/* Which of a slot's three scalefactor indices a, b, c, one a granule, are used, and which are transmitted (Table C.4). out, 9 elements: the
+ * three indices used; three flags, 1 where that one is transmitted; the scfsi; the classes, 1 to 5, of a - b and of b - c.
+ * Answers 0, 98. */
+uint32_t folgrist_select_scfsi(uint8_t a, uint8_t b, uint8_t c, uint8_t *out, size_t out_len);
+
+/* ---- samples ---- */
+
+/* The code of a sample, given divided by its scalefactor, in the class of a number of steps. out, 1 element: the code.
+ * Answers 0, 5, 98. */
+uint32_t folgrist_quantize_sample(uint32_t steps, double sample, uint32_t *out, size_t out_len);
+
+/* The codewords of three consecutive samples in the class of a number of steps. out, 5 elements: how many codewords, the bits of each, and
+ * three places for them, 0 where not used.
+ * Answers 0, 5, 98. */
+uint32_t folgrist_write_triplet(uint32_t steps, double a, double b, double c, uint32_t *out, size_t out_len);
+
+#ifdef __cplusplus
+}
+#endif
+
+#endif
