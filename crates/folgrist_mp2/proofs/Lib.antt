@@ -1,0 +1,3 @@
+pub mod AnswerLaws
+pub mod ArgumentLaws
+pub mod SampleLaws

@@ -1,0 +1,66 @@
+-- `folgrist_mp2::frame::budget_values` meets its contract: the cases of the budget, one by one.
+use native.Mathlib.Omega.{arith}
+use borrow.Author.Needs.{needs}
+use Rattle.folgrist_mp2.proofs.frame.budget_values.Statement.{statement}
+use Rattle.folgrist_mp2.proofs.frame.budget_values.Tie as tie
+
+enum-known-budget : tie.Need-enum-known-budget
+enum-known-budget c = search needs
+
+cast-t5 : tie.Need-cast-t5
+cast-t5 c =
+    let h = c .before .before .before .before .pre _ (c .before .before .budget .given .1) in
+    omega (arith, h .sblimit)
+
+cast-t6 : tie.Need-cast-t6
+cast-t6 c =
+    let k = c .before in
+    let h = k .before .before .before .before .pre _ (k .before .before .budget .given .1) in
+    omega (arith, h .sblimit, h .bound)
+
+cast-t7 : tie.Need-cast-t7
+cast-t7 c =
+    let k = c .before .before in
+    let h = k .before .before .before .before .pre _ (k .before .before .budget .given .1) in
+    omega (arith, h .channels)
+
+number-of-requires : tie.Need-number-of-requires
+number-of-requires c κs = search needs
+
+enum-told : tie.Need-enum-told
+enum-told c = search needs
+
+enum-told-2 : tie.Need-enum-told-2
+enum-told-2 c = search needs
+
+enum-told-3 : tie.Need-enum-told-3
+enum-told-3 c = search needs
+
+returns : tie.Need-returns
+returns c = rw (c .before .before .before .before .before .budget .given .1, c .number-of .ensures)
+
+returns-2 : tie.Need-returns-2
+returns-2 c = rw (c .enum-told .given .1)
+
+returns-3 : tie.Need-returns-3
+returns-3 c = rw (c .enum-told2 .given .1)
+
+returns-4 : tie.Need-returns-4
+returns-4 c = rw (c .enum-told3 .given .1)
+
+pub budget-values-spec : {M : Type 1} → statement M
+budget-values-spec =
+    tie.close
+    (tie.spec
+    enum-known-budget
+    cast-t5
+    cast-t6
+    cast-t7
+    number-of-requires
+    enum-told
+    enum-told-2
+    enum-told-3
+    returns
+    returns-2
+    returns-3
+    returns-4)

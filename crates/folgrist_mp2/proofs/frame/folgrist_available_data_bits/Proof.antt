@@ -1,0 +1,61 @@
+-- `folgrist_mp2::frame::folgrist_available_data_bits` meets its contract: the reply is the record that `available_data_bits` answers.
+use borrow.Author.Tests.{ltb-false}
+use mathlib.Core.Path.{ap, _∙_}
+use mathlib.Core.List.{[], _∷_}
+use lib.IntN.{ℤ}
+use mir.Syntax.{w64}
+use mir.Facts.{toZ-ofZ}
+use borrow.Author.Needs.{needs}
+use Rattle.folgrist_mp2.proofs.AnswerLaws.{room, refused-by, one-by}
+use Rattle.folgrist_mp2.proofs.ArgumentLaws.{header-refused, header-meant}
+use Rattle.folgrist_mp2.specs.Answers.{reply}
+use Rattle.folgrist_mp2.proofs.frame.folgrist_available_data_bits.Statement.{statement}
+use Rattle.folgrist_mp2.proofs.frame.folgrist_available_data_bits.Tie as tie
+
+header-given-requires : tie.Need-header-given-requires
+header-given-requires c κs = search needs
+
+enum-known-given : tie.Need-enum-known-given
+enum-known-given c = search needs
+
+enum-known-given-2 : tie.Need-enum-known-given-2
+enum-known-given-2 c = search needs
+
+available-data-bits-requires : tie.Need-available-data-bits-requires
+available-data-bits-requires c κs = search needs
+
+offered-bits-requires : tie.Need-offered-bits-requires
+offered-bits-requires c κs = search needs
+
+slice-set-from-out : tie.Need-slice-set-from-out
+slice-set-from-out c =
+    let k = c .before .before in
+    ltb-false _ _ (room _ _ _ (header-meant _ _ _ (k .before .before .before .header-given .ensures) (k .before .given2 .given .1)))
+
+returns : tie.Need-returns
+returns c = refused-by _ _ _ _ (header-refused _ _ _ (c .before .before .before .header-given .ensures) (c .before .given .given .1))
+
+same-length : tie.Need-same-length
+same-length c = search needs
+
+returns-2 : tie.Need-returns-2
+returns-2 c =
+    let k = c .before .before in
+    one-by _ _ _ _ _ _ (header-meant _ _ _ (k .before .before .before .header-given .ensures) (k .before .given2 .given .1))
+    (ap (λ (z : ℤ). reply (c .before .available-data-bits .result .number) (z ∷ [])) (toZ-ofZ {w = w64} {z = c .offered-bits .result} (record { sfits = c .offered-bits .ok }) ∙ c .offered-bits .ensures)
+    ∙ ap (λ a. reply (a .number) (a .bits ∷ [])) (c .before .available-data-bits .ensures))
+    (ltb-false _ _ (room _ _ _ (header-meant _ _ _ (k .before .before .before .header-given .ensures) (k .before .given2 .given .1))))
+
+pub folgrist-available-data-bits-spec : {M : Type 1} → statement M
+folgrist-available-data-bits-spec =
+    tie.close
+    (tie.spec
+    header-given-requires
+    enum-known-given
+    enum-known-given-2
+    available-data-bits-requires
+    offered-bits-requires
+    slice-set-from-out
+    returns
+    same-length
+    returns-2)

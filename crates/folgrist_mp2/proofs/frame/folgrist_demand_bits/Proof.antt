@@ -1,0 +1,60 @@
+-- `folgrist_mp2::frame::folgrist_demand_bits` meets its contract: the reply is the record that `demand_bits` answers for the two rows of ratios.
+use lib.ListN.{length}
+use mathlib.Core.Path.{ap, _∙_}
+use mathlib.Core.List.{[], _∷_}
+use borrow.Author.Needs.{needs}
+use Rattle.folgrist_mp2.proofs.AnswerLaws.{room, both-long, refused-by, one-by}
+use Rattle.folgrist_mp2.proofs.ArgumentLaws.{header-refused, header-meant}
+use Rattle.encoder_bit_budget.specs.Demand.{demandOf}
+use Rattle.folgrist_mp2.specs.Answers.{reply}
+use Rattle.folgrist_mp2.proofs.frame.folgrist_demand_bits.Statement.{statement}
+use Rattle.folgrist_mp2.proofs.frame.folgrist_demand_bits.Tie as tie
+
+header-given-requires : tie.Need-header-given-requires
+header-given-requires c κs = search needs
+
+enum-known-given : tie.Need-enum-known-given
+enum-known-given c = search needs
+
+enum-known-given-2 : tie.Need-enum-known-given-2
+enum-known-given-2 c = search needs
+
+rows-requires : tie.Need-rows-requires
+rows-requires c κs = search needs
+
+demand-bits-requires : tie.Need-demand-bits-requires
+demand-bits-requires c κs = search needs
+
+slice-write-out : tie.Need-slice-write-out
+slice-write-out c =
+    let k = c .before .before in
+    let s = k .before .before .before .before .before .before in
+    both-long (length (s .args .smr-db .now)) 64 (length (s .args .out .now)) 1 (room _ _ _ (header-meant _ _ _ (k .before .before .before .header-given .ensures) (k .before .given2 .given .1))) .1
+
+returns : tie.Need-returns
+returns c = refused-by _ _ _ _ (header-refused _ _ _ (c .before .before .before .header-given .ensures) (c .before .given .given .1))
+
+same-length : tie.Need-same-length
+same-length c = search needs
+
+returns-2 : tie.Need-returns-2
+returns-2 c =
+    let k = c .before .before in
+    let s = k .before .before .before .before .before .before in
+    one-by _ _ _ _ _ _ (header-meant _ _ _ (k .before .before .before .header-given .ensures) (k .before .given2 .given .1))
+    (ap (λ a. reply (a .number) (a .bits ∷ [])) (c .demand-bits .ensures .whole ∙ ap (demandOf _) (c .before .rows .ensures)))
+    (both-long (length (s .args .smr-db .now)) 64 (length (s .args .out .now)) 1 (room _ _ _ (header-meant _ _ _ (k .before .before .before .header-given .ensures) (k .before .given2 .given .1))) .1)
+
+pub folgrist-demand-bits-spec : {M : Type 1} → statement M
+folgrist-demand-bits-spec =
+    tie.close
+    (tie.spec
+    header-given-requires
+    enum-known-given
+    enum-known-given-2
+    rows-requires
+    demand-bits-requires
+    slice-write-out
+    returns
+    same-length
+    returns-2)

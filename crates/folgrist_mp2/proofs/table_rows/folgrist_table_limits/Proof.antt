@@ -1,0 +1,65 @@
+-- `folgrist_mp2::table_rows::folgrist_table_limits` meets its contract: the reply has what the table says.
+use borrow.Author.Tests.{ltb-false}
+use mathlib.Core.Path.{ap₂}
+use mathlib.Core.List.{[], _∷_}
+use borrow.Author.Needs.{needs}
+use Rattle.folgrist_mp2.proofs.AnswerLaws.{room, refused-by, meant-by}
+use Rattle.folgrist_mp2.proofs.ArgumentLaws.{table-refused, table-meant}
+use Rattle.folgrist_mp2.specs.Answers.{reply}
+use Rattle.folgrist_mp2.proofs.table_rows.folgrist_table_limits.Statement.{statement}
+use Rattle.folgrist_mp2.proofs.table_rows.folgrist_table_limits.Tie as tie
+
+table-given-requires : tie.Need-table-given-requires
+table-given-requires c κs = search needs
+
+enum-known-given : tie.Need-enum-known-given
+enum-known-given c = search needs
+
+enum-known-given-2 : tie.Need-enum-known-given-2
+enum-known-given-2 c = search needs
+
+sblimit-requires : tie.Need-sblimit-requires
+sblimit-requires c κs = search needs
+
+cast-t12 : tie.Need-cast-t12
+cast-t12 c = search needs
+
+nbal-requires : tie.Need-nbal-requires
+nbal-requires c κs = search needs
+
+slice-aggregate-put : tie.Need-slice-aggregate-put
+slice-aggregate-put c = search needs
+
+put-requires : tie.Need-put-requires
+put-requires c κs =
+    let k = c .before .before .before .before in
+    ltb-false _ _ (room _ _ _ (table-meant _ _ _ (k .before .before .before .table-given .ensures) (k .before .given2 .given .1)))
+
+returns : tie.Need-returns
+returns c = refused-by _ _ _ _ (table-refused _ _ _ (c .before .before .before .table-given .ensures) (c .before .given .given .1))
+
+same-length : tie.Need-same-length
+same-length c = search needs
+
+returns-2 : tie.Need-returns-2
+returns-2 c =
+    let p = c .before .before in
+    let l = p .before .before in
+    let k = l .before .before .before in
+    meant-by _ _ _ _ 0 (l .before .before .sblimit .result ∷ l .before .nbal .result ∷ []) _ (table-meant _ _ _ (k .before .before .before .table-given .ensures) (k .before .given2 .given .1)) (ap₂ (λ n b. reply 0 (n ∷ b ∷ [])) (l .before .before .sblimit .ensures .0) (l .before .nbal .ensures .whole)) (p .put .ensures)
+
+pub folgrist-table-limits-spec : {M : Type 1} → statement M
+folgrist-table-limits-spec =
+    tie.close
+    (tie.spec
+    table-given-requires
+    enum-known-given
+    enum-known-given-2
+    sblimit-requires
+    cast-t12
+    nbal-requires
+    slice-aggregate-put
+    put-requires
+    returns
+    same-length
+    returns-2)

@@ -1,0 +1,260 @@
+// The functions of a header: the table that it selects, the bits of its frame, what they offer and what the ratios demand, and the allocation.
+ghost use mathlib.Core.Path.{_≡_};
+ghost use mathlib.Core.Bool.{_||_};
+ghost use mathlib.Core.List.{[], _∷_};
+ghost use lib.Dec.{ltb};
+ghost use lib.ListN.{length};
+ghost use Rattle.header.specs.Header.{sizeOf};
+ghost use Rattle.header.specs.Questions.{number};
+ghost use Rattle.bitalloc.specs.Options.{tableIn};
+ghost use Rattle.slots.specs.Slots.{rowsOf};
+ghost use Rattle.encoder_bit_budget.specs.Budget.{budgetIn};
+ghost use Rattle.folgrist_mp2.specs.Answers.{answered, Answers};
+ghost use Rattle.folgrist_mp2.specs.Arguments.{headerAsked};
+ghost use Rattle.folgrist_mp2.specs.Replies.{tableFound, tableOr, tableSelected, frameSized, BoundedIn, budgetValues, budgetFixed, bitsAvailable, bitsDemanded, stepsAllocated, bitsAllocated};
+use crate::arguments;
+use crate::arguments::HeaderGiven;
+use crate::writing;
+use bitalloc::OptionTable;
+use encoder_bit_allocator::Allocation;
+use encoder_bit_budget::{AvailableBits, Budget};
+use header::FrameSize;
+
+// The allocation table that a header selects.
+#[no_mangle]
+pub extern "C" fn folgrist_select_table(
+    lsf: u8,
+    bit_rate: u32,
+    sample_rate: u32,
+    padding: u8,
+    protection_bit: u8,
+    mode: u8,
+    mode_extension: u8,
+    out: &mut [u32],
+) -> u32
+    ensures { λ r. ⌜ Answers (answered (headerAsked (ltb (length (now (out .entry))) 1) lsf «bit_rate» «sample_rate» padding «protection_bit» mode «mode_extension») tableSelected) (now (out .entry)) r (now (out .exit)) ⌝ }
+{
+    let short = out.len() < 1;
+    let given = arguments::header_given(short, lsf, bit_rate, sample_rate, padding, protection_bit, mode, mode_extension);
+    match given {
+        HeaderGiven::Refused(number) => number,
+        HeaderGiven::Meant(header) => {
+            let selected = bitalloc::select_table(header);
+            out[0] = selected_table(selected);
+            selected_number(selected)
+        }
+    }
+}
+
+fn selected_number(selected: OptionTable) -> u32
+    ensures { λ r. ⌜ r ≡ number (tableFound (tableIn selected) ∷ []) ⌝ }
+{
+    match selected {
+        OptionTable::Some(_) => 0,
+        OptionTable::None => 1,
+    }
+}
+
+fn selected_table(selected: OptionTable) -> u32
+    ensures { λ r. ⌜ r ≡ tableOr (tableIn selected) ⌝ }
+{
+    match selected {
+        OptionTable::Some(table) => arguments::number_of(table),
+        OptionTable::None => 0,
+    }
+}
+
+// The length of the frame in bytes.
+#[no_mangle]
+pub extern "C" fn folgrist_frame_size_bytes(
+    lsf: u8,
+    bit_rate: u32,
+    sample_rate: u32,
+    padding: u8,
+    protection_bit: u8,
+    mode: u8,
+    mode_extension: u8,
+    out: &mut [u64],
+) -> u32
+    ensures { λ r. ⌜ Answers (answered (headerAsked (ltb (length (now (out .entry))) 1) lsf «bit_rate» «sample_rate» padding «protection_bit» mode «mode_extension») frameSized) (now (out .entry)) r (now (out .exit)) ⌝ }
+{
+    let short = out.len() < 1;
+    let given = arguments::header_given(short, lsf, bit_rate, sample_rate, padding, protection_bit, mode, mode_extension);
+    match given {
+        HeaderGiven::Refused(number) => number,
+        HeaderGiven::Meant(header) => {
+            let size = header.frame_size_bytes();
+            out[0] = size_bytes(size);
+            size_number(size)
+        }
+    }
+}
+
+fn size_number(size: FrameSize) -> u32
+    ensures { λ r. ⌜ r ≡ sizeOf size .answer ⌝ }
+{
+    match size {
+        FrameSize::Bytes(_) => 0,
+        FrameSize::ZeroSampleRate => 2,
+    }
+}
+
+fn size_bytes(size: FrameSize) -> u64
+    ensures { λ r. ⌜ r ≡ sizeOf size .bytes ⌝ }
+{
+    match size {
+        FrameSize::Bytes(bytes) => bytes,
+        FrameSize::ZeroSampleRate => 0,
+    }
+}
+
+// The bits that are fixed for the frame.
+#[no_mangle]
+pub extern "C" fn folgrist_fixed_bit_budget(
+    lsf: u8,
+    bit_rate: u32,
+    sample_rate: u32,
+    padding: u8,
+    protection_bit: u8,
+    mode: u8,
+    mode_extension: u8,
+    out: &mut [u32],
+) -> u32
+    ensures { λ r. ⌜ Answers (answered (headerAsked (ltb (length (now (out .entry))) 8) lsf «bit_rate» «sample_rate» padding «protection_bit» mode «mode_extension») budgetFixed) (now (out .entry)) r (now (out .exit)) ⌝ }
+{
+    let short = out.len() < 8;
+    let given = arguments::header_given(short, lsf, bit_rate, sample_rate, padding, protection_bit, mode, mode_extension);
+    match given {
+        HeaderGiven::Refused(number) => number,
+        HeaderGiven::Meant(header) => {
+            let budget = encoder_bit_budget::fixed_bit_budget(header);
+            let values = budget_values(budget);
+            writing::put(&values, out);
+            budget.refusal()
+        }
+    }
+}
+
+fn budget_values(budget: Budget) -> [u32; 8]
+    requires { ⌜ BoundedIn budget ⌝ }
+    ensures { λ r. ⌜ r ≡ budgetValues (budgetIn budget .budget) ⌝ }
+{
+    match budget {
+        Budget::Ok(b) => {
+            let table = b.table;
+            [
+                b.cb,
+                b.bhdr,
+                b.bcrc,
+                b.bbal,
+                b.sblimit as u32,
+                b.bound as u32,
+                b.channels as u32,
+                arguments::number_of(table),
+            ]
+        }
+        Budget::NoBitallocTable => [0; 8],
+        Budget::ZeroSampleRate => [0; 8],
+        Budget::FrameTooLarge => [0; 8],
+    }
+}
+
+// The bits that the frame offers beside `banc` ancillary bits.
+#[no_mangle]
+pub extern "C" fn folgrist_available_data_bits(
+    lsf: u8,
+    bit_rate: u32,
+    sample_rate: u32,
+    padding: u8,
+    protection_bit: u8,
+    mode: u8,
+    mode_extension: u8,
+    banc: u32,
+    out: &mut [i64],
+) -> u32
+    ensures { λ r. ⌜ Answers (answered (headerAsked (ltb (length (now (out .entry))) 1) lsf «bit_rate» «sample_rate» padding «protection_bit» mode «mode_extension») (bitsAvailable banc)) (now (out .entry)) r (now (out .exit)) ⌝ }
+{
+    let short = out.len() < 1;
+    let given = arguments::header_given(short, lsf, bit_rate, sample_rate, padding, protection_bit, mode, mode_extension);
+    match given {
+        HeaderGiven::Refused(number) => number,
+        HeaderGiven::Meant(header) => {
+            let available = encoder_bit_budget::available_data_bits(header, banc);
+            out[0] = offered_bits(available);
+            available.number
+        }
+    }
+}
+
+fn offered_bits(available: AvailableBits) -> i64
+    ensures { λ r. ⌜ r ≡ available .bits ⌝ }
+{
+    available.bits
+}
+
+// The bits that the signal-to-mask ratios demand.
+#[no_mangle]
+pub extern "C" fn folgrist_demand_bits(
+    lsf: u8,
+    bit_rate: u32,
+    sample_rate: u32,
+    padding: u8,
+    protection_bit: u8,
+    mode: u8,
+    mode_extension: u8,
+    smr_db: &[f64],
+    out: &mut [u64],
+) -> u32
+    ensures { λ r. ⌜ Answers (answered (headerAsked (ltb (length (now («smr_db» .entry))) 64 || ltb (length (now (out .entry))) 1) lsf «bit_rate» «sample_rate» padding «protection_bit» mode «mode_extension») (bitsDemanded (now («smr_db» .entry)))) (now (out .entry)) r (now (out .exit)) ⌝ }
+{
+    let short = (smr_db.len() < 64) | (out.len() < 1);
+    let given = arguments::header_given(short, lsf, bit_rate, sample_rate, padding, protection_bit, mode, mode_extension);
+    match given {
+        HeaderGiven::Refused(number) => number,
+        HeaderGiven::Meant(header) => {
+            let demand = encoder_bit_budget::demand_bits(header, slots::rows(smr_db));
+            out[0] = demand.bits;
+            demand.number
+        }
+    }
+}
+
+// The steps of each slot, and the bits left.
+#[no_mangle]
+pub extern "C" fn folgrist_allocate_bits(
+    lsf: u8,
+    bit_rate: u32,
+    sample_rate: u32,
+    padding: u8,
+    protection_bit: u8,
+    mode: u8,
+    mode_extension: u8,
+    banc: u32,
+    smr_db: &[f64],
+    steps: &mut [u32],
+    out: &mut [u32],
+) -> u32
+    ensures { λ r. ⌜ Answers (answered (headerAsked (ltb (length (now («smr_db» .entry))) 64 || (ltb (length (now (steps .entry))) 64 || ltb (length (now (out .entry))) 4)) lsf «bit_rate» «sample_rate» padding «protection_bit» mode «mode_extension») (stepsAllocated (now («smr_db» .entry)) banc)) (now (steps .entry)) r (now (steps .exit)) ⌝ }
+    ensures { λ r. ⌜ Answers (answered (headerAsked (ltb (length (now («smr_db» .entry))) 64 || (ltb (length (now (steps .entry))) 64 || ltb (length (now (out .entry))) 4)) lsf «bit_rate» «sample_rate» padding «protection_bit» mode «mode_extension») (bitsAllocated (now («smr_db» .entry)) banc)) (now (out .entry)) r (now (out .exit)) ⌝ }
+{
+    let short = (smr_db.len() < 64) | ((steps.len() < 64) | (out.len() < 4));
+    let given = arguments::header_given(short, lsf, bit_rate, sample_rate, padding, protection_bit, mode, mode_extension);
+    match given {
+        HeaderGiven::Refused(number) => number,
+        HeaderGiven::Meant(header) => {
+            let allocation = encoder_bit_allocator::allocate_bits(header, slots::rows(smr_db), banc);
+            let nb_steps = steps_by_slot(allocation);
+            let bits = [allocation.left, allocation.cb, allocation.fixed, allocation.banc];
+            writing::put(&nb_steps, steps);
+            writing::put(&bits, out);
+            allocation.number
+        }
+    }
+}
+
+fn steps_by_slot(allocation: Allocation) -> [u32; 64]
+    ensures { λ r. ⌜ r ≡ allocation .audio .«nb_steps» ⌝ }
+{
+    let audio = allocation.audio;
+    audio.nb_steps
+}

@@ -1,0 +1,142 @@
+// The functions of an allocation table, and of a number of steps alone.
+ghost use mathlib.Core.Path.{_≡_};
+ghost use mathlib.Core.Bool.{_||_};
+ghost use mathlib.Core.Option.{some};
+ghost use mathlib.Core.List.{[], _∷_};
+ghost use lib.Dec.{ltb};
+ghost use lib.ListN.{length};
+ghost use Rattle.header.specs.Questions.{number};
+ghost use Rattle.bitalloc.specs.Classes.{SampleBitsAre};
+ghost use Rattle.bitalloc.specs.Options.{classIn};
+ghost use Rattle.folgrist_mp2.specs.Answers.{asked, answered, Answers};
+ghost use Rattle.folgrist_mp2.specs.Arguments.{tableAsked};
+ghost use Rattle.folgrist_mp2.specs.Replies.{limitsAt, stepsFound, indexFound, classFound, classOr, figuresOf, coefficients, classFigures};
+use crate::arguments;
+use crate::arguments::TableGiven;
+use crate::writing;
+use bitalloc::{OptionClass, OptionU32};
+
+// How many subbands a table carries, and the bits of a subband's allocation field.
+#[no_mangle]
+pub extern "C" fn folgrist_table_limits(table: u8, sb: u64, out: &mut [u32]) -> u32
+    ensures { λ r. ⌜ Answers (answered (tableAsked (ltb (length (now (out .entry))) 2) table) (limitsAt sb)) (now (out .entry)) r (now (out .exit)) ⌝ }
+{
+    let given = arguments::table_given(out.len() < 2, table);
+    match given {
+        TableGiven::Refused(number) => number,
+        TableGiven::Meant(t) => {
+            let limits = [t.sblimit() as u32, t.nbal(sb as usize)];
+            writing::put(&limits, out);
+            0
+        }
+    }
+}
+
+// The steps at a place of a subband's row.
+#[no_mangle]
+pub extern "C" fn folgrist_nb_steps(table: u8, sb: u64, index: u32, out: &mut [u32]) -> u32
+    ensures { λ r. ⌜ Answers (answered (tableAsked (ltb (length (now (out .entry))) 1) table) (stepsFound sb index)) (now (out .entry)) r (now (out .exit)) ⌝ }
+{
+    let given = arguments::table_given(out.len() < 1, table);
+    match given {
+        TableGiven::Refused(number) => number,
+        TableGiven::Meant(t) => {
+            let found = t.nb_steps(sb as usize, index);
+            match found {
+                OptionU32::Some(steps) => {
+                    out[0] = steps;
+                    0
+                }
+                OptionU32::None => 97,
+            }
+        }
+    }
+}
+
+// The place of a subband's row that has these steps.
+#[no_mangle]
+pub extern "C" fn folgrist_allocation_index(table: u8, sb: u64, steps: u32, out: &mut [u32]) -> u32
+    ensures { λ r. ⌜ Answers (answered (tableAsked (ltb (length (now (out .entry))) 1) table) (indexFound sb steps)) (now (out .entry)) r (now (out .exit)) ⌝ }
+{
+    let given = arguments::table_given(out.len() < 1, table);
+    match given {
+        TableGiven::Refused(number) => number,
+        TableGiven::Meant(t) => {
+            let found = t.allocation_index(sb as usize, steps);
+            match found {
+                OptionU32::Some(index) => {
+                    out[0] = index;
+                    0
+                }
+                OptionU32::None => 97,
+            }
+        }
+    }
+}
+
+// The class of quantization of a number of steps.
+#[no_mangle]
+pub extern "C" fn folgrist_class_of_quantization(steps: u32, cd: &mut [f64], out: &mut [u32]) -> u32
+    ensures { λ r. ⌜ Answers (answered (asked (ltb (length (now (cd .entry))) 2 || ltb (length (now (out .entry))) 4) (some steps)) coefficients) (now (cd .entry)) r (now (cd .exit)) ⌝ }
+    ensures { λ r. ⌜ Answers (answered (asked (ltb (length (now (cd .entry))) 2 || ltb (length (now (out .entry))) 4) (some steps)) classFigures) (now (out .entry)) r (now (out .exit)) ⌝ }
+{
+    if (cd.len() < 2) | (out.len() < 4) {
+        return 98;
+    }
+    let found = bitalloc::class_of_quantization(steps);
+    cd[0] = coefficient_c(found);
+    cd[1] = coefficient_d(found);
+    let figures = figures(found);
+    writing::put(&figures, out);
+    class_number(found)
+}
+
+fn class_number(found: OptionClass) -> u32
+    ensures { λ r. ⌜ r ≡ number (classFound (classIn found) ∷ []) ⌝ }
+{
+    match found {
+        OptionClass::Some(_) => 0,
+        OptionClass::None => 5,
+    }
+}
+
+fn coefficient_c(found: OptionClass) -> f64
+    ensures { λ r. ⌜ r ≡ classOr (classIn found) .c ⌝ }
+{
+    match found {
+        OptionClass::Some(class) => class.c,
+        OptionClass::None => 0.0,
+    }
+}
+
+fn coefficient_d(found: OptionClass) -> f64
+    ensures { λ r. ⌜ r ≡ classOr (classIn found) .d ⌝ }
+{
+    match found {
+        OptionClass::Some(class) => class.d,
+        OptionClass::None => 0.0,
+    }
+}
+
+// Grouping, samples and bits per codeword, bits per sample.
+fn figures(found: OptionClass) -> [u32; 4]
+    ensures { λ r. ⌜ r ≡ figuresOf (classOr (classIn found)) ⌝ }
+{
+    match found {
+        OptionClass::Some(class) => [
+            class.grouping as u32,
+            class.samples_per_codeword,
+            class.bits_per_codeword,
+            class.bits_per_sample(),
+        ],
+        OptionClass::None => [0; 4],
+    }
+}
+
+// The bits of a subband's 36 samples.
+#[no_mangle]
+pub extern "C" fn folgrist_sample_bits_for(steps: u32) -> u32
+    ensures { λ r. ⌜ SampleBitsAre steps r ⌝ }
+{
+    bitalloc::sample_bits_for(steps)
+}
