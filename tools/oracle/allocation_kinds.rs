@@ -6,9 +6,10 @@ use crate::budget_kinds::{
 use crate::doubles::about;
 use crate::heads::{Head, MODE, PROTECTION_BIT, header_of};
 use crate::kind::{Asker, Kind, stop};
-use crate::random::Random;
-use crate::ratios::{PATTERNS, Ratios, SLOTS, SUBBANDS, disturb, table_ratios};
-use crate::served::{SINGLE, absurd, budget_of, draw, is_asked, layouts, unserved};
+use crate::ratios::{SLOTS, SUBBANDS, table_ratios};
+use crate::served::{
+    SINGLE, absurd, any_pattern, budget_of, draw, is_asked, layouts, ratios_for, unserved,
+};
 use reference::audio_data::AudioData;
 use reference::encoder_bit_allocator::{
     BitAllocError, FixedBitBudget, SmrTable, allocate_bits, demand_bits, sample_bits_for,
@@ -51,7 +52,7 @@ const FIRST_STEP_BITS: u64 = 20;
 
 const RANDOM_LINES: usize = 29_000;
 
-fn ratios_of(a: &[u64]) -> SmrTable {
+pub fn ratios_of(a: &[u64]) -> SmrTable {
     std::array::from_fn(|ch| std::array::from_fn(|sb| f64::from_bits(a[SUBBANDS * ch + sb])))
 }
 
@@ -94,7 +95,7 @@ fn bits_left(a: &[u64], data: &AudioData) -> u64 {
 }
 
 /// For each field with steps, its samples once and the rest for each channel.
-fn charged(budget: &FixedBitBudget, data: &AudioData) -> u64 {
+pub fn charged(budget: &FixedBitBudget, data: &AudioData) -> u64 {
     let mut bits = 0;
     for sb in 0..budget.sblimit {
         let shared = sb >= budget.bound;
@@ -110,19 +111,6 @@ fn charged(budget: &FixedBitBudget, data: &AudioData) -> u64 {
         }
     }
     bits
-}
-
-/// Ratios for this header; what it must not read is at times disturbed.
-fn ratios_for(head: &Head, pattern: usize, random: &mut Random) -> Ratios {
-    let mut ratios = PATTERNS[pattern % PATTERNS.len()](random);
-    if let Some(budget) = budget_of(head) {
-        disturb(&mut ratios, budget.sblimit, budget.channels, random);
-    }
-    ratios
-}
-
-fn any_pattern(random: &mut Random) -> usize {
-    random.below(PATTERNS.len() as u64) as usize
 }
 
 fn ask_demand(asker: &mut Asker, edge: bool, head: &Head, pattern: usize) {

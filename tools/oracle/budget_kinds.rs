@@ -53,7 +53,7 @@ const STEREO: Head = [0, 192_000, 44_100, 0, 1, 0, 0];
 
 const RANDOM_HEADERS: usize = 100_000;
 
-fn answer_budget(a: &[u64]) -> Vec<u64> {
+pub fn answer_budget(a: &[u64]) -> Vec<u64> {
     match fixed_bit_budget(&header_of(a)) {
         Err(_) => vec![1, 0, 0, 0, 0, 0, 0, 0, 0],
         Ok(budget) => vec![

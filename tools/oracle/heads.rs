@@ -3,6 +3,7 @@
 use crate::kind::sorted;
 use crate::random::Random;
 use reference::header::{Emphasis, FrameHeader, Mode, ModeExtension};
+use std::sync::LazyLock;
 
 /// The places of H.
 pub const LSF: usize = 0;
@@ -129,30 +130,30 @@ impl Choice {
 }
 
 pub fn random_heads(count: usize, random: &mut Random) -> Vec<Head> {
-    let mut draws = Drawing::new(random);
-    (0..count).map(|_| draws.head()).collect()
+    (0..count).map(|_| any_head(random)).collect()
 }
+
+pub fn any_head(random: &mut Random) -> Head {
+    Drawing::new(random).head()
+}
+
+static BIT_RATES: LazyLock<Vec<u64>> = LazyLock::new(bit_rates);
+static SAMPLE_RATES: LazyLock<Vec<u64>> = LazyLock::new(sample_rates);
 
 /// Draws headers: likely rates most often, then those about them, then any.
 struct Drawing<'a> {
     random: &'a mut Random,
-    bit_rates: Vec<u64>,
-    sample_rates: Vec<u64>,
 }
 
 impl<'a> Drawing<'a> {
     fn new(random: &'a mut Random) -> Self {
-        Drawing {
-            random,
-            bit_rates: bit_rates(),
-            sample_rates: sample_rates(),
-        }
+        Drawing { random }
     }
 
     fn bit_rate(&mut self) -> u64 {
         match self.random.below(6) {
             0 | 1 => 1000 * self.random.pick(&LADDERS),
-            2 => self.random.pick(&self.bit_rates),
+            2 => self.random.pick(&BIT_RATES),
             3 => self.random.below(400_000),
             4 => 1000 * self.random.below(400),
             _ => self.random.word(),
@@ -163,7 +164,7 @@ impl<'a> Drawing<'a> {
         match self.random.below(6) {
             0..=2 => self.random.pick(&HIGH_SAMPLE_RATES),
             3 => self.random.pick(&LOW_SAMPLE_RATES),
-            4 => self.random.pick(&self.sample_rates),
+            4 => self.random.pick(&SAMPLE_RATES),
             _ => self.random.word(),
         }
     }

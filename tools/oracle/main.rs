@@ -1,22 +1,10 @@
 //! Writes the reference Rust's answers as lines of numbers, to be held against the port's.
 
-mod allocation_kinds;
-mod budget_kinds;
-mod class_kinds;
-mod doubles;
-mod header_kinds;
-mod heads;
-mod kind;
-mod random;
-mod ratios;
-mod sample_kinds;
-mod scalefactor_kinds;
-mod scfsi_kinds;
-mod served;
-mod steps;
-mod table_kinds;
-
-use kind::{Asker, Kind, silence_halts, stop};
+use questions::kind::{Asker, Kind, silence_halts, stop};
+use questions::{
+    allocation_kinds, budget_kinds, class_kinds, header_kinds, sample_kinds, scalefactor_kinds,
+    scfsi_kinds, table_kinds,
+};
 use std::env;
 use std::io::{self, BufWriter, Write};
 

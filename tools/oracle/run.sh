@@ -3,15 +3,34 @@
 # The build lies in target/oracle; nothing is fetched, and nothing of the Rust is copied.
 set -eu
 
-if [ "$#" -lt 1 ]; then
+usage() {
     echo "usage: run.sh RUST_FOLDER answers|sample [--seed S]" >&2
+    echo "       run.sh RUST_FOLDER compare --cases N --seed S [--archive PATH]" >&2
+    echo "       run.sh RUST_FOLDER selfcheck|bench [--archive PATH]" >&2
     exit 2
-fi
+}
+
+[ "$#" -ge 2 ] || usage
 rust=$(cd "$1" && pwd)
 shift
 tool=$(cd "$(dirname "$0")" && pwd)
-out=$(cd "$tool/../.." && pwd)/target/oracle
+target=$(cd "$tool/../.." && pwd)/target
+out=$target/oracle
 mkdir -p "$out"
+
+# The archive is linked, so its path is not for the program.
+archive=$target/staticlib/libfolgrist_mp2.a
+words=()
+while [ "$#" -gt 0 ]; do
+    if [ "$1" = --archive ]; then
+        [ "$#" -ge 2 ] || usage
+        archive=$2
+        shift 2
+    else
+        words+=("$1")
+        shift
+    fi
+done
 
 # The Rust's files are the modules of one crate; they name one another by `crate::`.
 for module in tables header bitalloc audio_data encoder_bit_allocator \
@@ -24,10 +43,26 @@ build() {
     rustc --edition 2024 -O -C overflow-checks=off -C debug-assertions=off \
         --out-dir "$out" -L "$out" "$@"
 }
+core=(--extern oxideav_core="$out/liboxideav_core.rlib")
+reference=(--extern reference="$out/libreference.rlib")
+questions=(--extern questions="$out/libquestions.rlib")
 build --crate-name oxideav_core --crate-type rlib "$tool/core.rs"
-build --crate-name reference --crate-type rlib --cap-lints allow \
-    --extern oxideav_core="$out/liboxideav_core.rlib" "$out/reference.rs"
-build --crate-name oracle --extern oxideav_core="$out/liboxideav_core.rlib" \
-    --extern reference="$out/libreference.rlib" "$tool/main.rs"
+build --crate-name reference --crate-type rlib --cap-lints allow "${core[@]}" "$out/reference.rs"
+build --crate-name questions --crate-type rlib "${core[@]}" "${reference[@]}" "$tool/lib.rs"
 
-exec "$out/oracle" "$@"
+case ${words[0]} in
+compare | selfcheck | bench)
+    if [ ! -f "$archive" ]; then
+        echo "run.sh: no archive of the C library at $archive" >&2
+        echo "run.sh: make it by 'rt staticlib folgrist_mp2', or name one by --archive PATH" >&2
+        exit 2
+    fi
+    build --crate-name compare "${core[@]}" "${reference[@]}" "${questions[@]}" \
+        -C link-arg="$archive" "$tool/compare/main.rs"
+    exec "$out/compare" "${words[@]}"
+    ;;
+*)
+    build --crate-name oracle "${questions[@]}" "$tool/main.rs"
+    exec "$out/oracle" "${words[@]}"
+    ;;
+esac

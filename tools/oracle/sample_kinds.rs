@@ -44,7 +44,7 @@ fn answer_sample(a: &[u64]) -> Vec<u64> {
     }
 }
 
-fn answer_triplet(a: &[u64]) -> Vec<u64> {
+pub fn answer_triplet(a: &[u64]) -> Vec<u64> {
     let Some(class) = class_of_quantization(a[0] as u32) else {
         return vec![NO_CLASS, 0, 0, 0, 0, 0];
     };
@@ -73,12 +73,12 @@ fn other_steps() -> Vec<u64> {
 }
 
 /// Half as many as the codes that the class's bits could hold.
-fn half(class: &QuantClass) -> i64 {
+pub fn half(class: &QuantClass) -> i64 {
     1 << (class.bits_per_sample() - 1)
 }
 
 /// The sample that a code, or a place between two, stands for.
-fn sample_at(class: &QuantClass, code: f64) -> f64 {
+pub fn sample_at(class: &QuantClass, code: f64) -> f64 {
     let half = half(class) as f64;
     class.c * ((code - half) / half + class.d)
 }
@@ -95,7 +95,7 @@ fn is_edge_code(class: &QuantClass, code: i64) -> bool {
     half <= 32 || near(0) || near(half) || near(2 * half - 2) || code % (half / 8) == 0
 }
 
-fn random_sample(class: &QuantClass, random: &mut Random) -> u64 {
+pub fn random_sample(class: &QuantClass, random: &mut Random) -> u64 {
     let code = random.below(2 * half(class) as u64) as f64;
     match random.below(6) {
         0 => random.next(),

@@ -69,7 +69,7 @@ fn answer_frame(a: &[u64]) -> Vec<u64> {
 }
 
 /// The multipliers with their neighbours, and what lies halfway between two.
-fn near_multipliers() -> Vec<u64> {
+pub fn near_multipliers() -> Vec<u64> {
     let mut doubles: Vec<u64> = SCALEFACTORS.iter().flat_map(|&m| about(m, 1)).collect();
     for pair in SCALEFACTORS.windows(2) {
         doubles.push(((pair[0] + pair[1]) / 2.0).to_bits());
@@ -78,7 +78,7 @@ fn near_multipliers() -> Vec<u64> {
 }
 
 /// Magnitudes about the table's, from far below its end to above its start.
-fn magnitude(random: &mut Random) -> f64 {
+pub fn magnitude(random: &mut Random) -> f64 {
     match random.below(4) {
         0 => random.between(0.0, 2.2),
         1 => SCALEFACTORS[random.below(63) as usize] * random.between(0.999, 1.001),
@@ -90,7 +90,7 @@ fn magnitude(random: &mut Random) -> f64 {
 }
 
 /// A sample of a granule or a frame; NaN, infinities and the like are rare.
-fn sample(random: &mut Random, nasty: &[u64]) -> u64 {
+pub fn sample(random: &mut Random, nasty: &[u64]) -> u64 {
     if random.one_in(24) {
         return random.pick(nasty);
     }

@@ -40,7 +40,7 @@ const LAST_INDEX: u64 = 62;
 
 const RANDOM_TRIPLES: usize = 50_000;
 
-fn selection(indices: [u8; 3]) -> [u64; 9] {
+pub fn selection(indices: [u8; 3]) -> [u64; 9] {
     let chosen = select_scfsi(indices);
     let scfsi = match chosen.scfsi {
         Scfsi::ThreePerGranule => 0,

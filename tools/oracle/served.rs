@@ -2,6 +2,7 @@
 
 use crate::heads::*;
 use crate::random::Random;
+use crate::ratios::{PATTERNS, Ratios, disturb};
 use reference::bitalloc::select_table;
 use reference::encoder_bit_allocator::{FixedBitBudget, fixed_bit_budget};
 
@@ -135,10 +136,23 @@ pub fn draw(random: &mut Random) -> Head {
         17 => [1, random.below(139), 1],
         18 => [1, random.below(LARGEST_FRAME), BYTES_RATE],
         _ => {
-            let head = random_heads(1, random)[0];
+            let head = any_head(random);
             [head[LSF], head[BIT_RATE], head[SAMPLE_RATE]]
         }
     };
     let extension = random.pick(&EXTENSIONS);
     with_flags([lsf, bit_rate, sample_rate, 0, 0, mode, extension], random)
+}
+
+/// Ratios for this header; what it must not read is at times disturbed.
+pub fn ratios_for(head: &Head, pattern: usize, random: &mut Random) -> Ratios {
+    let mut ratios = PATTERNS[pattern % PATTERNS.len()](random);
+    if let Some(budget) = budget_of(head) {
+        disturb(&mut ratios, budget.sblimit, budget.channels, random);
+    }
+    ratios
+}
+
+pub fn any_pattern(random: &mut Random) -> usize {
+    random.below(PATTERNS.len() as u64) as usize
 }

@@ -48,7 +48,7 @@ const TABLES: u64 = 5;
 /// One subband of each row of the tables B2a and B2b; here every low step count is asked.
 const WIDE_SUBBANDS: [u64; 4] = [0, 3, 11, 23];
 
-fn table_of(number: u64) -> BitAllocTable {
+pub fn table_of(number: u64) -> BitAllocTable {
     match number {
         0 => BitAllocTable::B2a,
         1 => BitAllocTable::B2b,

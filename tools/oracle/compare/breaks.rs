@@ -1,0 +1,152 @@
+//! Wrong answers on purpose: one for each function, one for each rule of an allocation.
+
+use crate::allocation_functions::ALLOCATE;
+use crate::case::{Case, Function, OUT_OF_RANGE, Reply, SHORT_SLICE};
+use crate::judge::{ANSWER, Break};
+use crate::layout::Field;
+use crate::rules::{Held, LAYOUT, PART_2, PART_3, PART_4, ROW, SHARED};
+use questions::ratios::SUBBANDS;
+
+/// Where a slice is read, the answer of a function is spoilt only if this double is not 0.
+pub const READ: usize = 5;
+
+pub fn breaks(functions: &[Function]) -> Vec<Break> {
+    let of_function = |function: &Function| Break {
+        name: function.name,
+        function: function.name,
+        difference: ANSWER,
+        change: spoil,
+    };
+    let mut breaks: Vec<Break> = functions.iter().map(of_function).collect();
+    breaks.extend([
+        answer("short", |_, _, reply| {
+            renumber(reply, SHORT_SLICE, OUT_OF_RANGE)
+        }),
+        answer("range", |_, _, reply| renumber(reply, OUT_OF_RANGE, 1)),
+        answer("behind", write_behind),
+        rule("layout", LAYOUT, |_, _, reply| {
+            if reply.number == 0 {
+                reply.memories[0].put(4, SUBBANDS - 1, 3);
+            }
+        }),
+        rule("shared", SHARED, |_, case, reply| {
+            change_held(case, reply, part_channels)
+        }),
+        rule("row", ROW, |_, case, reply| {
+            change_held(case, reply, |held, reply, _| {
+                set_steps(&held.layout.fields[0], 4, reply)
+            });
+        }),
+        rule("part2", PART_2, |_, case, reply| {
+            change_held(case, reply, |held, reply, _| set_left(held.left + 1, reply));
+        }),
+        rule("part3", PART_3, |_, case, reply| {
+            change_held(case, reply, take_step_back)
+        }),
+        rule("part4", PART_4, |_, case, reply| {
+            change_held(case, reply, exchange_steps)
+        }),
+    ]);
+    breaks
+}
+
+type Change = fn(&Function, &Case, &mut Reply);
+
+fn answer(name: &'static str, change: Change) -> Break {
+    rule(name, ANSWER, change)
+}
+
+fn rule(name: &'static str, difference: &'static str, change: Change) -> Break {
+    Break {
+        name,
+        function: ALLOCATE,
+        difference,
+        change,
+    }
+}
+
+fn spoil(function: &Function, case: &Case, reply: &mut Reply) {
+    if function.doubles > 0 && case.doubles.get(READ).is_none_or(|&bits| bits == 0) {
+        return;
+    }
+    if function.outs.is_empty() {
+        reply.number ^= 1;
+    } else if reply.number == 0 {
+        let value = reply.memories[0].get(1, 0);
+        reply.memories[0].put(1, 0, value ^ 1);
+    }
+}
+
+fn renumber(reply: &mut Reply, from: u32, to: u32) {
+    if reply.number == from {
+        reply.number = to;
+    }
+}
+
+fn write_behind(function: &Function, case: &Case, reply: &mut Reply) {
+    let (out, end) = (&function.outs[1], case.lengths[1]);
+    let value = reply.memories[1].get(out.width, end);
+    reply.memories[1].put(out.width, end, !value);
+}
+
+fn set_steps(field: &Field, steps: u64, reply: &mut Reply) {
+    reply.memories[0].put(4, field.slot, steps);
+    if field.serves == 2 {
+        reply.memories[0].put(4, field.slot + SUBBANDS, steps);
+    }
+}
+
+fn set_left(left: u64, reply: &mut Reply) {
+    reply.memories[1].put(4, 0, left);
+}
+
+/// Changes an accepted allocation, given by its fields and the ratios.
+fn change_held(case: &Case, reply: &mut Reply, change: fn(&Held, &mut Reply, &[u64])) {
+    if reply.number == 0
+        && let Ok(held) = Held::read(case, reply)
+    {
+        change(&held, reply, &case.doubles);
+    }
+}
+
+/// Gives the channels of a shared field different steps.
+fn part_channels(held: &Held, reply: &mut Reply, _: &[u64]) {
+    let shared = held
+        .layout
+        .fields
+        .iter()
+        .position(|field| field.serves == 2);
+    if let Some(at) = shared {
+        let field = &held.layout.fields[at];
+        let other = if held.places[at] == 0 { 1 } else { 0 };
+        reply.memories[0].put(4, field.slot, field.row[other].steps.into());
+    }
+}
+
+/// The first field with steps loses the last one, and what it cost is left.
+fn take_step_back(held: &Held, reply: &mut Reply, _: &[u64]) {
+    if let Some(at) = held.places.iter().position(|&place| place > 0) {
+        let (field, place) = (&held.layout.fields[at], held.places[at]);
+        set_steps(field, field.row[place - 1].steps.into(), reply);
+        set_left(held.left + field.price(place), reply);
+    }
+}
+
+/// A field's last step goes to another that had less need of it, at the same price.
+fn exchange_steps(held: &Held, reply: &mut Reply, ratios: &[u64]) {
+    let fields = &held.layout.fields;
+    let pairs = (0..fields.len()).flat_map(|from| (0..fields.len()).map(move |to| (from, to)));
+    for (from, to) in pairs {
+        let (own, other) = (&fields[from], &fields[to]);
+        let (last, next) = (held.places[from], held.places[to] + 1);
+        if last > 0
+            && next <= other.top()
+            && own.price(last) == other.price(next)
+            && own.mnr(last - 1, ratios) < other.mnr(next - 1, ratios)
+        {
+            set_steps(own, own.row[last - 1].steps.into(), reply);
+            set_steps(other, other.row[next].steps.into(), reply);
+            return;
+        }
+    }
+}

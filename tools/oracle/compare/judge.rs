@@ -1,0 +1,54 @@
+//! Holds one answer of the library against what is right.
+
+use crate::allocation_functions::{self, ALLOCATE};
+use crate::case::{Case, Function, Reply};
+use crate::{header_functions, rules, sample_functions, scalefactor_functions, table_functions};
+
+/// Every function of the library.
+pub fn functions() -> Vec<Function> {
+    let mut functions: Vec<Function> = Vec::new();
+    functions.extend(header_functions::FUNCTIONS);
+    functions.extend(allocation_functions::FUNCTIONS);
+    functions.extend(table_functions::FUNCTIONS);
+    functions.extend(scalefactor_functions::FUNCTIONS);
+    functions.extend(sample_functions::FUNCTIONS);
+    functions
+}
+
+pub const ANSWER: &str = "the answers differ";
+
+/// Makes the library's answer wrong on purpose, to see that it is noticed.
+pub struct Break {
+    pub name: &'static str,
+    pub function: &'static str,
+    /// What must be noticed.
+    pub difference: &'static str,
+    pub change: fn(&Function, &Case, &mut Reply),
+}
+
+pub struct Verdict {
+    pub answered: Reply,
+    pub expected: Reply,
+    /// Empty where all is well.
+    pub differences: Vec<&'static str>,
+}
+
+pub fn judge(function: &Function, case: &Case, broken: Option<&Break>) -> Verdict {
+    let expected = function.expected(case);
+    let mut answered = function.answered(case);
+    if let Some(broken) = broken.filter(|broken| broken.function == function.name) {
+        (broken.change)(function, case, &mut answered);
+    }
+    let mut differences = Vec::new();
+    if answered != expected {
+        differences.push(ANSWER);
+    }
+    if function.name == ALLOCATE && answered.number == 0 && expected.number == 0 {
+        differences.extend(rules::broken(case, &answered));
+    }
+    Verdict {
+        answered,
+        expected,
+        differences,
+    }
+}

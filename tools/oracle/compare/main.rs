@@ -1,0 +1,102 @@
+//! Compares the C library with the reference Rust in one process, and times both.
+
+mod allocation_functions;
+mod breaks;
+mod case;
+mod header_functions;
+mod judge;
+mod layout;
+mod library;
+mod report;
+mod rules;
+mod run;
+mod sample_functions;
+mod scalefactor_functions;
+mod selfcheck;
+mod shrink;
+mod table_functions;
+
+use case::Function;
+use judge::Break;
+use questions::kind::stop;
+use run::Cases;
+use std::env;
+use std::process::exit;
+
+const USAGE: &str = "words: compare --cases N --seed S [--from CASE] [--only NAME,..] [--break NAME], \
+                     selfcheck [--seed S] [--show], bench [NAME..]";
+
+struct Command {
+    cases: Cases,
+    only: Vec<usize>,
+    broken: Option<String>,
+    shown: bool,
+}
+
+/// None where the words are not understood.
+fn parse(words: &[String], functions: &[Function]) -> Option<Command> {
+    let cases = Cases {
+        seed: 1,
+        first: 0,
+        count: 1_000_000,
+    };
+    let mut command = Command {
+        cases,
+        only: Vec::new(),
+        broken: None,
+        shown: false,
+    };
+    let mut rest = words.iter();
+    while let Some(word) = rest.next() {
+        match word.as_str() {
+            "--cases" => command.cases.count = rest.next()?.parse().ok()?,
+            "--seed" => command.cases.seed = rest.next()?.parse().ok()?,
+            "--from" => command.cases.first = rest.next()?.parse().ok()?,
+            "--only" => command.only = places(rest.next()?, functions)?,
+            "--break" => command.broken = Some(rest.next()?.clone()),
+            "--show" => command.shown = true,
+            _ => return None,
+        }
+    }
+    Some(command)
+}
+
+/// The places of functions that are named with commas between.
+fn places(names: &str, functions: &[Function]) -> Option<Vec<usize>> {
+    let place = |name: &str| functions.iter().position(|function| function.name == name);
+    names.split(',').map(place).collect()
+}
+
+fn named<'a>(name: &str, breaks: &'a [Break]) -> &'a Break {
+    let known = || {
+        breaks
+            .iter()
+            .map(|broken| broken.name)
+            .collect::<Vec<_>>()
+            .join(", ")
+    };
+    let found = breaks.iter().find(|broken| broken.name == name);
+    found.unwrap_or_else(|| stop(&format!("--break knows {}", known())))
+}
+
+fn main() {
+    let words: Vec<String> = env::args().skip(1).collect();
+    let functions = judge::functions();
+    let breaks = breaks::breaks(&functions);
+    let (Some(mode), rest) = (words.first(), words.get(1..).unwrap_or(&[])) else {
+        stop(USAGE);
+    };
+    let Some(command) = parse(rest, &functions) else {
+        stop(USAGE);
+    };
+    run::tell_halts();
+    let good = match mode.as_str() {
+        "compare" => {
+            let broken = command.broken.map(|name| named(&name, &breaks));
+            run::compare(&functions, &command.cases, &command.only, broken)
+        }
+        "selfcheck" => selfcheck::selfcheck(&functions, &breaks, command.cases.seed, command.shown),
+        _ => stop(USAGE),
+    };
+    exit(if good { 0 } else { 1 });
+}

@@ -1,0 +1,17 @@
+//! What the reference Rust is asked, and how; both programs of this folder link it.
+
+pub mod allocation_kinds;
+pub mod budget_kinds;
+pub mod class_kinds;
+pub mod doubles;
+pub mod header_kinds;
+pub mod heads;
+pub mod kind;
+pub mod random;
+pub mod ratios;
+pub mod sample_kinds;
+pub mod scalefactor_kinds;
+pub mod scfsi_kinds;
+pub mod served;
+pub mod steps;
+pub mod table_kinds;
