@@ -1,6 +1,8 @@
 //! Compares the C library with the reference Rust in one process, and times both.
 
 mod allocation_functions;
+mod bench;
+mod bench_inputs;
 mod breaks;
 mod case;
 mod header_functions;
@@ -15,6 +17,7 @@ mod scalefactor_functions;
 mod selfcheck;
 mod shrink;
 mod table_functions;
+mod timing;
 
 use case::Function;
 use judge::Break;
@@ -81,22 +84,29 @@ fn named<'a>(name: &str, breaks: &'a [Break]) -> &'a Break {
 
 fn main() {
     let words: Vec<String> = env::args().skip(1).collect();
-    let functions = judge::functions();
-    let breaks = breaks::breaks(&functions);
-    let (Some(mode), rest) = (words.first(), words.get(1..).unwrap_or(&[])) else {
+    let Some((mode, rest)) = words.split_first() else {
         stop(USAGE);
     };
-    let Some(command) = parse(rest, &functions) else {
-        stop(USAGE);
-    };
-    run::tell_halts();
     let good = match mode.as_str() {
-        "compare" => {
-            let broken = command.broken.map(|name| named(&name, &breaks));
-            run::compare(&functions, &command.cases, &command.only, broken)
-        }
-        "selfcheck" => selfcheck::selfcheck(&functions, &breaks, command.cases.seed, command.shown),
+        "bench" => bench::bench(rest) || stop(USAGE),
+        "compare" | "selfcheck" => ask(mode == "selfcheck", rest),
         _ => stop(USAGE),
     };
     exit(if good { 0 } else { 1 });
+}
+
+/// False where a difference is found, or missed in a check of the comparison itself.
+fn ask(checks_itself: bool, words: &[String]) -> bool {
+    let functions = judge::functions();
+    let breaks = breaks::breaks(&functions);
+    let Some(command) = parse(words, &functions) else {
+        stop(USAGE);
+    };
+    run::tell_halts();
+    if checks_itself {
+        selfcheck::selfcheck(&functions, &breaks, command.cases.seed, command.shown)
+    } else {
+        let broken = command.broken.map(|name| named(&name, &breaks));
+        run::compare(&functions, &command.cases, &command.only, broken)
+    }
 }
