@@ -76,10 +76,16 @@ fn draw_samples(case: &mut Case, count: usize, random: &mut Random) {
     }
 }
 
-/// Within some units in the last place of where the code changes.
+/// Within some units in the last place of where the code changes, often in the middle or at an end.
 fn about_boundary(class: &QuantClass, random: &mut Random) -> u64 {
-    let codes = 2 * half(class) as u64 + 1;
-    let sample = sample_at(class, random.below(codes) as f64 - 0.5);
+    let half = half(class) as u64;
+    let code = match random.below(4) {
+        0 => half - 2 + random.below(5),
+        1 => random.below(3),
+        2 => 2 * half - random.below(3),
+        _ => random.below(2 * half + 1),
+    };
+    let sample = sample_at(class, code as f64 - 0.5);
     let reach = if class.grouping { 8 } else { 3 };
     let near = sample.to_bits() + random.below(2 * reach + 1);
     near.wrapping_sub(reach)
