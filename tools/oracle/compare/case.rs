@@ -115,17 +115,14 @@ impl Function {
         case.fill = random.next();
         case.doubles.clear();
         (self.draw)(case, random);
-        for (length, out) in case.lengths.iter_mut().zip(self.outs) {
-            *length = out.count;
-        }
-        self.change_lengths(case, random);
+        self.draw_lengths(case, random);
         if !self.arguments.is_empty() && random.one_in(24) {
             self.leave_range(case, random);
         }
     }
 
     /// At times a slice is short, at times longer than it must be.
-    fn change_lengths(&self, case: &mut Case, random: &mut Random) {
+    fn draw_lengths(&self, case: &mut Case, random: &mut Random) {
         for (length, out) in case.lengths.iter_mut().zip(self.outs) {
             *length = draw_length(out.count, random);
         }

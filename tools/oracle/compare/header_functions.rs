@@ -58,7 +58,7 @@ pub const FUNCTIONS: [Function; 4] = [
         arguments: HEAD,
         doubles: 0,
         outs: &[out(4, 1)],
-        draw: draw_header_case,
+        draw: draw_head,
         library: |case, [out, _]| {
             call_with_head!(
                 folgrist_select_table,
@@ -79,7 +79,7 @@ pub const FUNCTIONS: [Function; 4] = [
         arguments: HEAD,
         doubles: 0,
         outs: &[out(8, 1)],
-        draw: draw_header_case,
+        draw: draw_head,
         library: |case, [out, _]| {
             call_with_head!(
                 folgrist_frame_size_bytes,
@@ -105,7 +105,7 @@ pub const FUNCTIONS: [Function; 4] = [
         arguments: HEAD,
         doubles: 0,
         outs: &[out(4, 8)],
-        draw: draw_header_case,
+        draw: draw_head,
         library: |case, [out, _]| {
             call_with_head!(
                 folgrist_fixed_bit_budget,
@@ -210,10 +210,6 @@ fn about_largest(random: &mut Random) -> Head {
     let bit_rate = (bytes * head[SAMPLE_RATE]).div_ceil(144) + random.below(3);
     head[BIT_RATE] = bit_rate.min(u32::MAX.into());
     head
-}
-
-fn draw_header_case(case: &mut Case, random: &mut Random) {
-    draw_head(case, random);
 }
 
 /// About what is offered, near 2^32, or any; past what the Rust's sum holds too.

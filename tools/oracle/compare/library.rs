@@ -1,4 +1,5 @@
 //! The library's functions, as its header declares them: a slice is a pointer and a length.
+//! A call is safe where each pointer is of live memory with room for the length beside it.
 
 /// H, as the arguments of a call.
 macro_rules! with_head {

@@ -49,7 +49,7 @@ fn schedule(functions: &[Function]) -> Vec<usize> {
 }
 
 /// Draws the case of this number: it follows from the seed and the number alone.
-pub fn draw(function: &Function, seed: u64, number: u64, case: &mut Case) {
+fn draw(function: &Function, seed: u64, number: u64, case: &mut Case) {
     let mut random = Random::new(seed, 0, number);
     function.draw_case(case, &mut random);
 }
