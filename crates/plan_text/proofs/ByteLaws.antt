@@ -1,0 +1,60 @@
+-- Laws of texts: equal texts, the first byte that passes a test, and the pieces of a text.
+use mathlib.Core.Path.{_≡_, refl, sym, ap, _∙_, subst}
+use mathlib.Core.Bool.{Bool, true, false, cond, _&&_}
+use mathlib.Core.List.{List, [], _∷_}
+use Prim.Native.Nat.{ℕ, zero, suc, _+_, _≤_, _<_, suc-le-suc}
+use native.Mathlib.Numerals.{add-one}
+use native.Mathlib.Omega.{arith}
+use lib.Dec.{T, eqb}
+use lib.ListN.{length, take, drop, getD, drop-of-length-le}
+use lib.Seq.{drop-cons}
+use borrow.Author.Tests.{eqb-true, eq-eqb}
+use Rattle.plan_text.specs.Bytes.{same, reach, onto, pieces}
+
+-- ---- equal texts
+
+pub same-refl : (xs : List ℕ) → same xs xs ≡ true
+same-refl [] = refl
+same-refl (x ∷ xs) = rw (eq-eqb x x refl, same-refl xs)
+
+pub both : (a b : Bool) → a && b ≡ true → (a ≡ true) × (b ≡ true)
+both true b e = (refl, e)
+both false b e = absurd (subst T (sym e) tt)
+
+pub same-equal : (xs ys : List ℕ) → same xs ys ≡ true → xs ≡ ys
+same-equal [] [] e = refl
+same-equal [] (y ∷ ys) e = absurd (subst T (sym e) tt)
+same-equal (x ∷ xs) [] e = absurd (subst T (sym e) tt)
+same-equal (x ∷ xs) (y ∷ ys) e =
+    let p = both (eqb x y) (same xs ys) e in
+    rw (eqb-true x y (p .0), same-equal xs ys (p .1))
+
+-- a test that passes at equal texts and at no others
+pub decides : (r : Bool) (xs ys : List ℕ) → (r ≡ true → xs ≡ ys) → (xs ≡ ys → r ≡ true) → r ≡ same xs ys
+decides true xs ys f g = sym (rw (f refl) (same-refl ys))
+decides false xs ys f g = go (same xs ys) refl
+  where
+    go : (b : Bool) → same xs ys ≡ b → false ≡ b
+    go true e = g (same-equal xs ys e)
+    go false e = refl
+
+-- ---- the first byte that passes
+
+module _ (p : ℕ → Bool) where
+  pub reach-most : (bs : List ℕ) → reach p bs ≤ length bs
+  reach-most [] = omega arith
+  reach-most (b ∷ bs) = go (p b) (reach-most bs)
+    where
+      go : (t : Bool) → reach p bs ≤ length bs → cond t 0 (suc (reach p bs)) ≤ length (b ∷ bs)
+      go true h = omega arith
+      go false h = suc-le-suc h
+
+  module _ (text : List ℕ) (i : ℕ) where
+    pub reach-at : i < length text → p (getD text i 0) ≡ true → reach p (drop i text) ≡ 0
+    reach-at h e = rw (drop-cons text i 0 h, e)
+
+    pub reach-past : i < length text → p (getD text i 0) ≡ false → i + reach p (drop i text) ≡ i + 1 + reach p (drop (i + 1) text)
+    reach-past h e = rw (add-one i, drop-cons text i 0 h, e) (omega arith)
+
+    pub reach-end : length text ≤ i → reach p (drop i text) ≡ 0
+    reach-end h = rw (drop-of-length-le text h)
