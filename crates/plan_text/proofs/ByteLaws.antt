@@ -2,13 +2,13 @@
 use mathlib.Core.Path.{_≡_, refl, sym, ap, _∙_, subst}
 use mathlib.Core.Bool.{Bool, true, false, cond, _&&_}
 use mathlib.Core.List.{List, [], _∷_}
-use Prim.Native.Nat.{ℕ, zero, suc, _+_, _≤_, _<_, suc-le-suc}
+use Prim.Native.Nat.{ℕ, zero, suc, _+_, _-_, _≤_, _<_, min, suc-le-suc}
 use native.Mathlib.Numerals.{add-one}
 use native.Mathlib.Omega.{arith}
-use lib.Dec.{T, eqb}
-use lib.ListN.{length, take, drop, getD, drop-of-length-le}
-use lib.Seq.{drop-cons}
-use borrow.Author.Tests.{eqb-true, eq-eqb}
+use lib.Dec.{T, eqb, ltb}
+use lib.ListN.{length, take, drop, getD, drop-of-length-le, length-drop}
+use lib.Seq.{drop-cons, take-all}
+use borrow.Author.Tests.{eqb-true, eq-eqb, ltb-true, ltb-false}
 use Rattle.plan_text.specs.Bytes.{same, reach, onto, pieces}
 
 -- ---- equal texts
@@ -58,3 +58,21 @@ module _ (p : ℕ → Bool) where
 
     pub reach-end : length text ≤ i → reach p (drop i text) ≡ 0
     reach-end h = rw (drop-of-length-le text h)
+
+  -- what is found from the start of a text is not past its end
+  pub found-most : (text : List ℕ) (r : ℕ) → r ≡ 0 + reach p (drop 0 text) → r ≤ length text
+  found-most text r e = let h = reach-most text in omega arith
+
+-- past a place that may be the end of the text
+pub drop-past : {A : Type 0} (t : List A) (r s : ℕ) → s ≡ min (r + 1) (length t) → drop s t ≡ drop (suc r) t
+drop-past t r s e = go (ltb r (length t)) refl
+  where
+    go : (b : Bool) → ltb r (length t) ≡ b → drop s t ≡ drop (suc r) t
+    go true h = let l = ltb-true r (length t) h in let z : s ≡ suc r = omega arith in rw z
+    go false h =
+        let l = ltb-false r (length t) h in
+        drop-of-length-le t {i = s} (omega arith) ∙ sym (drop-of-length-le t {i = suc r} (omega arith))
+
+-- the rest of a text from a place on
+pub take-rest : {A : Type 0} (t : List A) (s : ℕ) → take (length t - s) (drop s t) ≡ drop s t
+take-rest t s = take-all (length t - s) (drop s t) (omega (arith, length-drop s t))

@@ -2,9 +2,9 @@
 use mathlib.Core.Path.{_≡_, refl, sym, ap, _∙_, subst}
 use mathlib.Core.Bool.{Bool, true, false, cond, _&&_}
 use mathlib.Core.List.{List, [], _∷_, _++_}
-use mathlib.Core.Option.{Option, none, some}
+use mathlib.Core.Option.{Option, none, some, Option·some-injective, Option·none-ne-some}
 use Prim.Native.Nat.{ℕ, zero, suc, _+_, _-_, _*_, _^_, _≤_, _<_}
-use native.Mathlib.Nat.{pow-suc, mul-le-mul-left}
+use native.Mathlib.Nat.{pow-suc, mul-le-mul-left, mul-le-mul-right}
 use native.Mathlib.Omega.{arith}
 use lib.Dec.{T, leb}
 use native.Mathlib.Numerals.{add-one}
@@ -71,3 +71,50 @@ module _ (most n : ℕ) (text : List ℕ) (i : ℕ) where
 
   pub at-end : length text ≤ i → n ≤ most → from most n (drop i text) ≡ some n
   at-end h l = rw (drop-of-length-le text h) (from-end most n l)
+
+-- ---- two texts of digits, one behind the other
+
+pub digits-append : (a b : List ℕ) → digits (a ++ b) ≡ digits a && digits b
+digits-append [] b = refl
+digits-append (x ∷ a) b = go (digit x) (digits-append a b)
+  where
+    go : (t : Bool) → digits (a ++ b) ≡ digits a && digits b → t && digits (a ++ b) ≡ (t && digits a) && digits b
+    go true h = h
+    go false h = refl
+
+pub numeral-append : (a b : List ℕ) → numeral (a ++ b) ≡ numeral a * 10 ^ length b + numeral b
+numeral-append [] b = omega arith
+numeral-append (x ∷ a) b =
+    rw (length-append a b, pow-add 10 (length a) (length b), numeral-append a b) (omega arith)
+
+pub numeral-less : (a : List ℕ) → digits a ≡ true → numeral a < 10 ^ length a
+numeral-less [] h = omega arith
+numeral-less (x ∷ a) h =
+    let p = both (digit x) (digits a) h in
+    let r = digit-range x (p .0) in
+    let l = numeral-less a (p .1) in
+    let g : (x - 48) * 10 ^ length a ≤ 9 * 10 ^ length a = mul-le-mul-right (10 ^ length a) (omega arith) in
+    rw (pow-suc 10 (length a)) (omega arith)
+
+-- ---- what a number that is read tells of its digits
+
+pub read-told : (most n : ℕ) (bs : List ℕ) → numberTo most bs ≡ some n → (digits bs ≡ true) × (numeral bs ≡ n)
+unfolding numberTo
+read-told most n bs = go (digits bs) (leb (numeral bs) most)
+  where
+    go : (d l : Bool) → cond (d && l) (some (numeral bs)) none ≡ some n → (d ≡ true) × (numeral bs ≡ n)
+    go true true e = (refl, Option·some-injective _ _ e)
+    go true false e = absurd (Option·none-ne-some n e)
+    go false l e = absurd (Option·none-ne-some n e)
+
+-- a number that is small enough is missing only where a byte is not a digit
+pub unread-told : (most : ℕ) (bs : List ℕ) → 10 ^ length bs ≤ most + 1 → numberTo most bs ≡ none → digits bs ≡ false
+unfolding numberTo
+unread-told most bs h = go (digits bs) refl
+  where
+    go : (d : Bool) → digits bs ≡ d → cond (d && leb (numeral bs) most) (some (numeral bs)) none ≡ none → d ≡ false
+    go true g e =
+        let l = numeral-less bs g in
+        let z : some (numeral bs) ≡ none = rw (le-leb (numeral bs) most (omega arith)) at e in
+        absurd (Option·none-ne-some _ (sym z))
+    go false g e = refl

@@ -1,0 +1,102 @@
+-- `plan_ratios::read_pointed` meets its contract.
+use mathlib.Core.Path.{_≡_, refl, sym, ap, _∙_}
+use mathlib.Core.Bool.{true, false, _&&_}
+use mathlib.Core.Option.{none, some}
+use Prim.Native.Nat.{ℕ, _+_}
+use borrow.Author.Needs.{needs}
+use lib.ListN.{length}
+use Rattle.plan_text.specs.Digits.{optionOf}
+use Rattle.plan_ratios.specs.Ratio.{few}
+use Rattle.plan_ratios.proofs.DecimalLaws.{pointed-unfew, front-unread, back-unread, parts-less, parts-read}
+use Rattle.plan_ratios.proofs.read_pointed.Statement.{statement}
+use Rattle.plan_ratios.proofs.read_pointed.Tie as tie
+use Rattle.plan_ratios.proofs.read_pointed.Reads as reads
+use Rattle.plan_ratios.proofs.read_pointed.Lts as lts
+use Rattle.plan_ratios.proofs.are_few.Reads as are-few-reads
+use Rattle.plan_ratios.proofs.nearest_decimal.Reads as nearest-decimal-reads
+use Rattle.plan_text.proofs.read_digits.Reads as read-digits-reads
+
+-- the counts are right
+counted : (c : tie.Then1) → let a = c .before .before .before .before .args in few (length (a .front .now) + length (a .back .now)) ≡ true
+counted c = sym (c .before .are-few .ensures) ∙ c .if1 .taken
+
+-- the first part is read
+front-read : (c : tie.After-known-told) → optionOf (c .before .before .before .read-digits .result) ≡ some (c .before .first .given .0 .0)
+front-read c = ap optionOf (c .before .first .given .1)
+
+are-few-requires : tie.Need-are-few-requires
+are-few-requires c κs = search needs
+
+read-digits-requires : tie.Need-read-digits-requires
+read-digits-requires c κs = search needs
+
+enum-known-first : tie.Need-enum-known-first
+enum-known-first c = search needs
+
+enum-told : tie.Need-enum-told
+enum-told c = search needs
+
+returns : tie.Need-returns
+returns c =
+    let d = c .before .before in
+    sym (front-unread _ _ (counted (d .before)) (sym (d .read-digits .ensures) ∙ ap optionOf (c .enum-told .given .1)))
+
+read-digits-requires-2 : tie.Need-read-digits-requires-2
+read-digits-requires-2 c κs = search needs
+
+enum-known-second : tie.Need-enum-known-second
+enum-known-second c = search needs
+
+enum-told-2 : tie.Need-enum-told-2
+enum-told-2 c = search needs
+
+returns-2 : tie.Need-returns-2
+returns-2 c =
+    let k = c .before .before .before in
+    let d = k .before .before .before in
+    sym
+    (back-unread _ _ (counted (d .before)) _
+    (sym (d .read-digits .ensures) ∙ front-read k)
+    (sym (c .before .before .read-digits2 .ensures) ∙ ap optionOf (c .enum-told2 .given .1)))
+
+nearest-decimal-requires : tie.Need-nearest-decimal-requires
+nearest-decimal-requires c κs =
+    let e = c .before .before .before in
+    let k = e .before in
+    let d = k .before .before .before in
+    let a = d .before .before .before .before .before .args in
+    parts-less (a .front .now) (a .back .now) (counted (d .before)) _
+    (sym (d .read-digits .ensures) ∙ front-read k) _
+    (sym (e .read-digits2 .ensures) ∙ ap optionOf (c .before .second .given .1))
+
+returns-3 : tie.Need-returns-3
+returns-3 c =
+    let e = c .before .before .before .before in
+    let k = e .before in
+    let d = k .before .before .before in
+    let a = d .before .before .before .before .before .args in
+    ap some (c .nearest-decimal .ensures)
+    ∙ sym
+    (parts-read (a .front .now) (a .back .now) (counted (d .before)) _
+    (sym (d .read-digits .ensures) ∙ front-read k) _
+    (sym (e .read-digits2 .ensures) ∙ ap optionOf (c .before .before .second .given .1)))
+
+returns-4 : tie.Need-returns-4
+returns-4 c = sym (pointed-unfew _ _ (sym (c .before .are-few .ensures) ∙ c .if1 .left))
+
+pub read-pointed-spec : {M : Type 1} → statement M
+read-pointed-spec =
+    tie.close
+    (tie.spec
+    are-few-requires
+    read-digits-requires
+    enum-known-first
+    enum-told
+    returns
+    read-digits-requires-2
+    enum-known-second
+    enum-told-2
+    returns-2
+    nearest-decimal-requires
+    returns-3
+    returns-4)
