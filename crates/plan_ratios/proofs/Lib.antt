@@ -1,2 +1,5 @@
 pub mod DecimalLaws
 pub mod RatioLaws
+pub mod TokenLaws
+pub mod AnswerLaws
+pub mod WalkLaws

@@ -1,1 +1,4 @@
 pub mod Ratio
+pub mod Tokens
+pub mod Ratios
+pub mod Walk

@@ -1,10 +1,16 @@
 // Reading signal-to-mask ratios, in decibels, from a text.
 ghost use mathlib.Core.Path.{_≡_};
-ghost use Prim.Native.Nat.{_+_, _-_, _*_, _^_, _≤_, _<_, min};
+ghost use Prim.Native.Nat.{_+_, _-_, _*_, _^_, _≤_, _<_};
 ghost use mathlib.Core.Option.{Option·map};
 ghost use lib.Ieee.{neg};
 ghost use Rattle.tables.specs.Decimal.{decimal};
 ghost use Rattle.plan_ratios.specs.Ratio.{few, pointed, unsigned, signed, wordValue, ratioOf, readOf};
+ghost use mathlib.Core.Bool.{cond};
+ghost use lib.ListN.{length, drop};
+ghost use Rattle.plan_text.specs.Bytes.{reach, pieces};
+ghost use Rattle.plan_ratios.specs.Tokens.{endsLine, isEnd};
+ghost use Rattle.plan_ratios.specs.Ratios.{slotsOf, empty, refused, ratiosOf};
+ghost use Rattle.plan_ratios.specs.Walk.{gap, Skipped};
 use plan_text::OptionU64;
 
 // A ratio that may be missing.
@@ -73,7 +79,7 @@ fn read_unsigned(token: &[u8]) -> OptionRatio
     ensures { λ r. ⌜ readOf r ≡ unsigned (now (token .entry)) ⌝ }
 {
     let point = plan_text::find_byte(token, 0, b'.');
-    let start = behind_point(point, token.len());
+    let start = plan_text::past(point, token.len());
     read_pointed(&token[..point], &token[start..])
 }
 
@@ -110,13 +116,6 @@ fn are_few(a: usize, b: usize) -> bool
     (1 <= a + b) & (a + b <= 15)
 }
 
-// Where the digits behind the point start: past the point, or at the end of a token without one.
-fn behind_point(point: usize, end: usize) -> usize
-    ensures { λ r. ⌜ r ≡ min (point + 1) end ⌝ }
-{
-    if point < end { point + 1 } else { end }
-}
-
 // whole + fraction / 10^places, rounded once: both numbers that are divided are exact in binary64.
 fn nearest_decimal(whole: u64, fraction: u64, places: usize) -> f64
     requires { ⌜ (places ≤ 15) × (whole * 10 ^ places + fraction < 10 ^ 15) ⌝ }
@@ -138,4 +137,166 @@ fn power_of_ten(n: usize) -> u64
         i += 1;
     }
     power
+}
+
+// What `read_ratios` answers.
+pub enum RatiosAnswer {
+    Accepted,
+    // A token that is no ratio.
+    CannotRead,
+    // A token behind the last slot.
+    TooMany,
+    // The text ends before the last slot is filled.
+    TooFew,
+}
+
+// The ratios of a text: slot 32 * channel + subband, channel 0's first.
+pub struct Ratios {
+    pub answer: RatiosAnswer,
+    // Where it is not accepted, the line of the token, or the last line; lines are counted from 1.
+    pub line: u64,
+    // How many ratios were read.
+    pub count: usize,
+    pub ratios: [f64; 64],
+}
+
+// The ratios of a text, in the order of the slots; any number of channels but 1 counts as 2.
+pub fn read_ratios(text: &[u8], channels: usize) -> Ratios
+    ensures { λ r. ⌜ r ≡ ratiosOf channels (now (text .entry)) ⌝ }
+{
+    let slots = slots_of(channels);
+    let mut ratios = no_ratios();
+    let mut count: usize = 0;
+    let start = skip_gap(text, 0, 0);
+    let mut at = start.at;
+    let mut feeds = start.feeds;
+    while at < text.len() {
+        if count == slots {
+            return refused(RatiosAnswer::TooMany, feeds + 1, count);
+        }
+        let end = token_end(text, at);
+        let read = read_ratio(&text[at..end]);
+        let OptionRatio::Some(ratio) = read else {
+            return refused(RatiosAnswer::CannotRead, feeds + 1, count);
+        };
+        ratios[count] = ratio;
+        count += 1;
+        let next = skip_gap(text, end, feeds);
+        at = next.at;
+        feeds = next.feeds;
+    }
+    if count < slots {
+        return refused(RatiosAnswer::TooFew, count_lines(text), count);
+    }
+    Ratios {
+        answer: RatiosAnswer::Accepted,
+        line: 0,
+        count,
+        ratios,
+    }
+}
+
+fn slots_of(channels: usize) -> usize
+    ensures { λ r. ⌜ (r ≡ slotsOf channels) × (r ≤ 64) ⌝ }
+{
+    if channels == 1 { 32 } else { 64 }
+}
+
+// 64 slots with 0.0.
+fn no_ratios() -> [f64; 64]
+    ensures { λ r. ⌜ r ≡ empty 64 ⌝ }
+{
+    [0.0; 64]
+}
+
+// An answer that names a line.
+fn refused(answer: RatiosAnswer, line: u64, count: usize) -> Ratios
+    ensures { λ r. ⌜ r ≡ refused answer line count ⌝ }
+{
+    let ratios = no_ratios();
+    Ratios {
+        answer,
+        line,
+        count,
+        ratios,
+    }
+}
+
+// A place of a text, and how many line feeds stand before it.
+struct Gap {
+    at: usize,
+    feeds: u64,
+}
+
+// Past white space and comments: where the next token starts, or the text ends.
+fn skip_gap(text: &[u8], from: usize, passed: u64) -> Gap
+    requires { ⌜ (from ≤ length (now text)) × (passed ≤ from) ⌝ }
+    ensures { λ r. ⌜ Skipped (now (text .entry)) from passed r ⌝ }
+{
+    let mut at = from;
+    let mut feeds = passed;
+    while at < text.len() {
+        let byte = text[at];
+        if is_end(byte) {
+            feeds = feeds + feeds_of(byte);
+            at = gap_end(text, at);
+        } else {
+            return Gap { at, feeds };
+        }
+    }
+    Gap { at, feeds }
+}
+
+// A byte that ends a token: a line feed, the # of a comment, a space, a tab or a carriage return.
+fn is_end(byte: u8) -> bool
+    ensures { λ r. ⌜ r ≡ isEnd byte ⌝ }
+{
+    (byte == b'\n') | (byte == b'#') | ((byte == b' ') | (byte == b'\t') | (byte == b'\r'))
+}
+
+fn feeds_of(byte: u8) -> u64
+    ensures { λ r. ⌜ (r ≡ cond (endsLine byte) 1 0) × (r ≤ 1) ⌝ }
+{
+    if byte == b'\n' { 1 } else { 0 }
+}
+
+// Where a comment's line ends; past any other byte.
+fn gap_end(text: &[u8], at: usize) -> usize
+    requires { ⌜ at < length (now text) ⌝ }
+    ensures { λ r. ⌜ (r ≡ at + gap (drop at (now (text .entry)))) × (at < r) × (r ≤ length (now (text .entry))) ⌝ }
+{
+    let next = at + 1;
+    if text[at] == b'#' {
+        plan_text::find_byte(text, next, b'\n')
+    } else {
+        next
+    }
+}
+
+// Where the token that starts at a place ends.
+fn token_end(text: &[u8], from: usize) -> usize
+    ensures { λ r. ⌜ r ≡ from + reach isEnd (drop from (now (text .entry))) ⌝ }
+{
+    let mut i = from;
+    while i < text.len() {
+        if is_end(text[i]) {
+            return i;
+        }
+        i += 1;
+    }
+    i
+}
+
+// How many lines a text has.
+fn count_lines(text: &[u8]) -> u64
+    ensures { λ r. ⌜ r ≡ length (pieces endsLine (now (text .entry))) ⌝ }
+{
+    let mut lines: u64 = 0;
+    let mut at = 0;
+    while at < text.len() {
+        let end = plan_text::find_byte(text, at, b'\n');
+        at = plan_text::past(end, text.len());
+        lines += 1;
+    }
+    lines
 }

@@ -3,13 +3,14 @@ use mathlib.Core.Path.{_≡_, refl, sym, ap, _∙_, subst}
 use mathlib.Core.Bool.{Bool, true, false, cond, _&&_}
 use mathlib.Core.List.{List, [], _∷_}
 use Prim.Native.Nat.{ℕ, zero, suc, _+_, _-_, _≤_, _<_, min, suc-le-suc}
+use native.Mathlib.Nat.{not-suc-le-zero, zero-lt-suc}
 use native.Mathlib.Numerals.{add-one}
 use native.Mathlib.Omega.{arith}
 use lib.Dec.{T, eqb, ltb}
 use lib.ListN.{length, take, drop, getD, drop-of-length-le, length-drop}
-use lib.Seq.{drop-cons, take-all}
+use lib.Seq.{drop-cons, drop-drop, take-all}
 use borrow.Author.Tests.{eqb-true, eq-eqb, ltb-true, ltb-false}
-use Rattle.plan_text.specs.Bytes.{same, reach, onto, pieces}
+use Rattle.plan_text.specs.Bytes.{same, reach, before, behind, onto, pieces}
 
 -- ---- equal texts
 
@@ -59,9 +60,9 @@ module _ (p : ℕ → Bool) where
     pub reach-end : length text ≤ i → reach p (drop i text) ≡ 0
     reach-end h = rw (drop-of-length-le text h)
 
-  -- what is found from the start of a text is not past its end
-  pub found-most : (text : List ℕ) (r : ℕ) → r ≡ 0 + reach p (drop 0 text) → r ≤ length text
-  found-most text r e = let h = reach-most text in omega arith
+  -- what is found in a text is not past its end
+  pub found-most : (text : List ℕ) (i r : ℕ) → i ≤ length text → r ≡ i + reach p (drop i text) → r ≤ length text
+  found-most text i r h e = let g = reach-most (drop i text) in let l = length-drop i text in omega arith
 
 -- past a place that may be the end of the text
 pub drop-past : {A : Type 0} (t : List A) (r s : ℕ) → s ≡ min (r + 1) (length t) → drop s t ≡ drop (suc r) t
@@ -76,3 +77,37 @@ drop-past t r s e = go (ltb r (length t)) refl
 -- the rest of a text from a place on
 pub take-rest : {A : Type 0} (t : List A) (s : ℕ) → take (length t - s) (drop s t) ≡ drop s t
 take-rest t s = take-all (length t - s) (drop s t) (omega (arith, length-drop s t))
+
+-- ---- the first piece
+
+module _ (p : ℕ → Bool) where
+  pub pieces-first : (bs : List ℕ) → 0 < length bs → pieces p bs ≡ before p bs ∷ pieces p (behind p bs)
+  pieces-first [] h = absurd (not-suc-le-zero h)
+  pieces-first (b ∷ []) h = go (p b)
+    where
+      go : (t : Bool) → cond t ([] ∷ []) ((b ∷ []) ∷ []) ≡ take (cond t 0 1) (b ∷ []) ∷ pieces p (drop (suc (cond t 0 1)) (b ∷ []))
+      go true = refl
+      go false = refl
+  pieces-first (b ∷ c ∷ bs) h = go (p b) (pieces-first (c ∷ bs) (zero-lt-suc (length bs)))
+    where
+      cs : List ℕ
+      cs = c ∷ bs
+      go : (t : Bool) → pieces p cs ≡ before p cs ∷ pieces p (behind p cs)
+        → cond t ([] ∷ pieces p cs) (onto b (pieces p cs))
+        ≡ take (cond t 0 (suc (reach p cs))) (b ∷ cs) ∷ pieces p (drop (suc (cond t 0 (suc (reach p cs)))) (b ∷ cs))
+      go true e = refl
+      go false e = ap (onto b) e
+
+  -- as the code cuts it: from i to e, and the next one from s on
+  pub pieces-at : (text : List ℕ) (i e s : ℕ) → i < length text → e ≡ i + reach p (drop i text) → s ≡ min (e + 1) (length text)
+    → pieces p (drop i text) ≡ take (e - i) (drop i text) ∷ pieces p (drop s text)
+  pieces-at text i e s h f g =
+      let r = reach p (drop i text) in
+      let l = length-drop i text in
+      let k : r ≡ e - i = omega arith in
+      let m : suc e ≡ i + suc r = omega arith in
+      let d : drop (suc r) (drop i text) ≡ drop s text =
+          drop-drop (suc r) i text ∙ ap (λ (j : ℕ). drop j text) (sym m) ∙ sym (drop-past text e s g) in
+      pieces-first (drop i text) (omega arith)
+      ∙ ap (λ (j : ℕ). take j (drop i text) ∷ pieces p (drop (suc r) (drop i text))) k
+      ∙ ap (λ (l : List ℕ). take (e - i) (drop i text) ∷ pieces p l) d

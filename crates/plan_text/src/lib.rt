@@ -1,6 +1,6 @@
 // Reading texts of bytes: comparing, finding a byte, and numbers in decimal digits.
 ghost use mathlib.Core.Path.{_≡_};
-ghost use Prim.Native.Nat.{_+_, _-_, _≤_};
+ghost use Prim.Native.Nat.{_+_, _-_, _≤_, min};
 ghost use lib.ListN.{drop};
 ghost use lib.Dec.{eqb};
 ghost use Rattle.plan_text.specs.Bytes.{same, reach};
@@ -31,6 +31,13 @@ pub fn find_byte(text: &[u8], from: usize, byte: u8) -> usize
         i += 1;
     }
     i
+}
+
+// The place past a byte that was found, or the end where there is none.
+pub fn past(place: usize, end: usize) -> usize
+    ensures { λ r. ⌜ r ≡ min (place + 1) end ⌝ }
+{
+    if place < end { place + 1 } else { end }
 }
 
 // Whether a byte is a digit.

@@ -1,6 +1,7 @@
 -- `plan_ratios::read_unsigned` meets its contract.
 use mathlib.Core.Path.{_≡_, refl, sym, ap, _∙_}
 use borrow.Author.Needs.{needs}
+use native.Mathlib.Omega.{arith}
 use lib.Seq.{length-take-le}
 use Rattle.plan_ratios.specs.Ratio.{isPoint}
 use Rattle.plan_text.proofs.ByteLaws.{found-most}
@@ -9,21 +10,20 @@ use Rattle.plan_ratios.proofs.read_unsigned.Statement.{statement}
 use Rattle.plan_ratios.proofs.read_unsigned.Tie as tie
 use Rattle.plan_ratios.proofs.read_unsigned.Reads as reads
 use Rattle.plan_ratios.proofs.read_unsigned.Lts as lts
-use Rattle.plan_ratios.proofs.behind_point.Reads as behind-point-reads
 use Rattle.plan_ratios.proofs.read_pointed.Reads as read-pointed-reads
 use Rattle.plan_text.proofs.find_byte.Reads as find-byte-reads
 
 find-byte-requires : tie.Need-find-byte-requires
 find-byte-requires c κs = search needs
 
-behind-point-requires : tie.Need-behind-point-requires
-behind-point-requires c κs = search needs
+past-requires : tie.Need-past-requires
+past-requires c κs = search needs
 
 slice-aggregate-read-pointed : tie.Need-slice-aggregate-read-pointed
 slice-aggregate-read-pointed c =
     let f = c .before .before in
     let t = f .before .before .args .token .now in
-    sym (length-take-le (f .find-byte .result) t (found-most isPoint t (f .find-byte .result) (f .find-byte .ensures)))
+    sym (length-take-le (f .find-byte .result) t (found-most isPoint t 0 (f .find-byte .result) (omega arith) (f .find-byte .ensures)))
 
 sub-read-pointed : tie.Need-sub-read-pointed
 sub-read-pointed c = search needs
@@ -40,14 +40,14 @@ read-pointed-requires c κs = search needs
 returns : tie.Need-returns
 returns c =
     let b = c .before .before .before in
-    c .read-pointed .ensures ∙ two-parts _ _ _ (b .before .find-byte .ensures) (b .behind-point .ensures)
+    c .read-pointed .ensures ∙ two-parts _ _ _ (b .before .find-byte .ensures) (b .past .ensures)
 
 pub read-unsigned-spec : {M : Type 1} → statement M
 read-unsigned-spec =
     tie.close
     (tie.spec
     find-byte-requires
-    behind-point-requires
+    past-requires
     slice-aggregate-read-pointed
     sub-read-pointed
     part-read-pointed-start

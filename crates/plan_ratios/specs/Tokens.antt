@@ -1,0 +1,51 @@
+-- The tokens of a text of ratios. A line ends with a line feed or with the text; a comment goes from # to the end of its line; spaces, tabs
+-- and carriage returns separate tokens.
+use Prim.Native.Nat.{ℕ, suc}
+use Prim.Native.Char.{code}
+use mathlib.Core.Bool.{Bool, _||_}
+use mathlib.Core.List.{List, [], _∷_, _++_, map}
+use lib.Dec.{eqb}
+use Rattle.plan_text.specs.Bytes.{before, pieces}
+
+-- the line feed
+abbrev pub endsLine : ℕ → Bool
+endsLine b = eqb b (code "\n")
+
+-- what starts a comment
+abbrev pub isHash : ℕ → Bool
+isHash b = eqb b (code "#")
+
+-- white space within a line
+abbrev pub isBlank : ℕ → Bool
+isBlank b = eqb b (code " ") || eqb b (code "\t") || eqb b (code "\r")
+
+-- what ends a token
+abbrev pub isEnd : ℕ → Bool
+isEnd b = endsLine b || isHash b || isBlank b
+
+-- the pieces that are not empty
+abbrev pub filled : List (List ℕ) → List (List ℕ)
+filled [] = []
+filled ([] ∷ ts) = filled ts
+filled ((b ∷ t) ∷ ts) = (b ∷ t) ∷ filled ts
+
+-- the tokens of a line
+abbrev pub lineTokens : List ℕ → List (List ℕ)
+lineTokens l = filled (pieces isBlank (before isHash l))
+
+-- a token, and the number of its line
+pub record Token : Type 0 where
+  pub line : ℕ
+  pub text : List ℕ
+
+abbrev pub onLine : ℕ → List ℕ → Token
+onLine n t = record { line = n; text = t }
+
+-- the tokens of lines that are numbered from n on
+abbrev pub numbered : ℕ → List (List ℕ) → List Token
+numbered n [] = []
+numbered n (l ∷ ls) = map (onLine n) (lineTokens l) ++ numbered (suc n) ls
+
+-- the tokens of a text whose first line has the number n
+unfoldable pub tokensFrom : ℕ → List ℕ → List Token
+tokensFrom n text = numbered n (pieces endsLine text)

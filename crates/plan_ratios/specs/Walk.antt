@@ -1,0 +1,27 @@
+-- What the walk over a text keeps: the tokens that are still to come.
+use Prim.Native.Nat.{ℕ, suc, _+_, _≤_, _<_}
+use mathlib.Core.Path.{_≡_}
+use mathlib.Core.Bool.{false, cond}
+use mathlib.Core.List.{List, [], _∷_}
+use lib.ListN.{length, getD, drop}
+use Rattle.plan_text.specs.Bytes.{reach}
+use Rattle.plan_ratios.specs.declared.Gap.{Gap}
+use Rattle.plan_ratios.specs.Tokens.{endsLine, isHash, isEnd, tokensFrom}
+
+-- how far a gap goes: to the end of a comment's line, or over one byte
+abbrev pub gap : List ℕ → ℕ
+gap [] = 0
+gap (b ∷ bs) = cond (isHash b) (suc (reach endsLine bs)) 1
+
+-- a place of a text and the line feeds before it
+pub record Reached (text : List ℕ) (at feeds : ℕ) : Type 0 where
+  pub within : at ≤ length text
+  pub counted : feeds ≤ at
+  -- a token starts there, or the text ends
+  pub starts : at < length text → isEnd (getD text at 0) ≡ false
+
+-- the tokens from a place on are those from the end of the gap on
+pub record Skipped (text : List ℕ) (from feeds : ℕ) (r : Gap) : Type 0 where
+  pub kept : tokensFrom (feeds + 1) (drop from text) ≡ tokensFrom (r .feeds + 1) (drop (r .at) text)
+  pub forward : from ≤ r .at
+  pub reached : Reached text (r .at) (r .feeds)
