@@ -11,7 +11,7 @@ use native.Mathlib.Numerals.{add-one}
 use lib.ListN.{length, getD, drop, length-append, drop-of-length-le}
 use lib.Seq.{drop-cons}
 use lib.Pow.{pow-add}
-use borrow.Author.Tests.{le-leb, lt-leb, leb-true}
+use borrow.Author.Tests.{le-leb, lt-leb, leb-true, leb-false}
 use Rattle.plan_text.specs.Digits.{digit, digits, numeral, numberTo}
 use Rattle.plan_text.proofs.ByteLaws.{both}
 
@@ -118,3 +118,20 @@ unread-told most bs h = go (digits bs) refl
         let z : some (numeral bs) ≡ none = rw (le-leb (numeral bs) most (omega arith)) at e in
         absurd (Option·none-ne-some _ (sym z))
     go false g e = refl
+
+-- ---- a lower limit
+
+module _ (most less : ℕ) (bs : List ℕ) where
+  pub read-less : (n : ℕ) → numberTo most bs ≡ some n → numberTo less bs ≡ cond (leb n less) (some n) none
+  unfolding numberTo
+  read-less n e = let p = read-told most n bs e in rw (p .0, p .1)
+
+  pub unread-less : less ≤ most → numberTo most bs ≡ none → numberTo less bs ≡ none
+  unfolding numberTo
+  unread-less h = go (digits bs) (leb (numeral bs) most) refl
+    where
+      go : (d l : Bool) → leb (numeral bs) most ≡ l → cond (d && l) (some (numeral bs)) none ≡ none
+        → cond (d && leb (numeral bs) less) (some (numeral bs)) none ≡ none
+      go true true g e = absurd (Option·none-ne-some _ (sym e))
+      go true false g e = let z = leb-false (numeral bs) most g in rw (lt-leb (numeral bs) less (omega arith))
+      go false l g e = refl

@@ -1,0 +1,32 @@
+-- `plan_words::with_setting` meets its contract.
+use mathlib.Core.Path.{_≡_, refl, sym, ap, _∙_}
+use Rattle.plan_words.specs.Line.{withSetting}
+use borrow.Author.Needs.{needs}
+use Rattle.plan_words.proofs.with_setting.Statement.{statement}
+use Rattle.plan_words.proofs.with_setting.Tie as tie
+use Rattle.plan_words.proofs.with_setting.Reads as reads
+use Rattle.plan_words.proofs.with_setting.Lts as lts
+use Rattle.plan_words.proofs.banc_with.Reads as banc-with-reads
+use Rattle.plan_words.proofs.header_with.Reads as header-with-reads
+use Rattle.plan_words.proofs.key_of.Reads as key-of-reads
+
+key-of-requires : tie.Need-key-of-requires
+key-of-requires c κs = search needs
+
+header-with-requires : tie.Need-header-with-requires
+header-with-requires c κs = search needs
+
+banc-with-requires : tie.Need-banc-with-requires
+banc-with-requires c κs = search needs
+
+array-write-given : tie.Need-array-write-given
+array-write-given c = search needs
+
+returns : tie.Need-returns
+unfolding withSetting
+returns c = rw (c .before .before .header-with .ensures, c .before .banc-with .ensures, c .before .before .before .key-of .ensures .0)
+
+pub with-setting-spec : {M : Type 1} → statement M
+with-setting-spec =
+    tie.close
+    (tie.spec key-of-requires header-with-requires banc-with-requires array-write-given returns)
