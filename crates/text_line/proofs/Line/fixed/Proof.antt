@@ -1,0 +1,59 @@
+-- `text_line::Line::fixed` meets its contract.
+use Rattle.text_line.proofs.LineLaws.{behind}
+use mathlib.Core.Path.{ap, _∙_}
+use mathlib.Core.List.{List, _++_, append-assoc}
+use Prim.Native.Nat.{ℕ, _/_, _%_}
+use Rattle.text_line.specs.Line.{text, textOf, cut}
+use Rattle.text_line.specs.Number.{numberText}
+use Rattle.text_line.specs.Ratio.{twoDigits}
+use borrow.Author.Needs.{needs}
+use Rattle.text_line.proofs.Line.fixed.Statement.{statement}
+use Rattle.text_line.proofs.Line.fixed.Tie as tie
+
+cast-part : tie.Need-cast-part
+cast-part c = search needs
+
+add-t8 : tie.Need-add-t8
+add-t8 c = search needs
+
+add-t10 : tie.Need-add-t10
+add-t10 c = search needs
+
+number-requires : tie.Need-number-requires
+number-requires c κs = search needs
+
+slice-aggregate-text : tie.Need-slice-aggregate-text
+slice-aggregate-text c = search needs
+
+text-requires : tie.Need-text-requires
+text-requires c κs = search needs
+
+slice-aggregate-text-2 : tie.Need-slice-aggregate-text-2
+slice-aggregate-text-2 c = search needs
+
+text-requires-2 : tie.Need-text-requires-2
+text-requires-2 c κs = search needs
+
+returns : tie.Need-returns
+returns c =
+    let n = c .before .before .before .before in
+    let t = textOf (n .before .args .self) in
+    let h = n .before .args .hundredths in
+    let a = numberText (h / 100) in
+    let d = twoDigits (h % 100) in
+    behind ((t ++ a) ++ text ".") d (behind (t ++ a) (text ".") (n .number .ensures) (c .before .before .text .ensures)) (c .text2 .ensures)
+    ∙ ap cut (ap (λ (u : List ℕ). u ++ d) (append-assoc t a (text ".")) ∙ append-assoc t (a ++ text ".") d)
+
+pub fixed-spec : {M : Type 1} → statement M
+fixed-spec =
+    tie.close
+    (tie.spec
+    cast-part
+    add-t8
+    add-t10
+    number-requires
+    slice-aggregate-text
+    text-requires
+    slice-aggregate-text-2
+    text-requires-2
+    returns)

@@ -1,0 +1,29 @@
+-- `text_line::Line::number_in` meets its contract.
+use mathlib.Core.Path.{ap, _∙_}
+use mathlib.Core.List.{List, _++_}
+use Prim.Native.Nat.{ℕ}
+use native.Mathlib.Omega.{arith}
+use Rattle.text_line.specs.Line.{textOf, cut, aligned}
+use Rattle.text_line.proofs.LineLaws.{alone}
+use Rattle.text_line.proofs.NumberLaws.{few-digits}
+use borrow.Author.Needs.{needs}
+use Rattle.text_line.proofs.Line.number_in.Statement.{statement}
+use Rattle.text_line.proofs.Line.number_in.Tie as tie
+
+new-requires : tie.Need-new-requires
+new-requires c κs = search needs
+
+number-requires : tie.Need-number-requires
+number-requires c κs = search needs
+
+aligned-requires : tie.Need-aligned-requires
+aligned-requires c κs = search needs
+
+returns : tie.Need-returns
+returns c =
+    let s = c .before .before .before in
+    c .aligned .ensures
+    ∙ ap (λ (t : List ℕ). cut (textOf (s .args .self) ++ aligned (s .args .width) t)) (alone _ _ _ (c .before .before .new .ensures) (c .before .number .ensures) (let h = few-digits 20 (s .args .n) in omega arith))
+
+pub number-in-spec : {M : Type 1} → statement M
+number-in-spec = tie.close (tie.spec new-requires number-requires aligned-requires returns)

@@ -1,0 +1,27 @@
+-- What a line says, and columns.
+use Prim.Native.Nat.{ℕ, _-_}
+use Prim.Native.Char.{code}
+use Prim.Native.String.{String, [] as []ˢ, _∷_ as _∷ˢ_}
+use mathlib.Core.List.{List, [], _∷_, _++_}
+use lib.ListN.{length, take, replicate}
+use Rattle.text_line.specs.declared.Line.{Line}
+
+-- a text as the codes of its characters
+abbrev pub text : String → List ℕ
+text []ˢ = []
+text (c ∷ˢ s) = code c ∷ text s
+
+-- a line's text
+abbrev pub textOf : Line → List ℕ
+textOf l = take (l .length) (l .bytes)
+
+-- what a line holds of a text
+unfoldable pub cut : List ℕ → List ℕ
+cut t = take 256 t
+
+abbrev pub spaces : ℕ → List ℕ
+spaces n = replicate n 32
+
+-- a text at the right of a column; a text that is wider than the column takes its own width
+unfoldable pub aligned : ℕ → List ℕ → List ℕ
+aligned width t = spaces (width - length t) ++ t

@@ -1,0 +1,196 @@
+// A line of text, built from the left: texts, numbers, ratios in decibels to the hundredth, and columns that are aligned to the right.
+// A line holds 256 bytes; what is beyond them is cut off.
+ghost use mathlib.Core.Path.{_≡_};
+ghost use mathlib.Core.Bool.{cond};
+ghost use mathlib.Core.List.{[], _++_};
+ghost use Prim.Native.Nat.{_+_, _-_, _^_, _≤_, min};
+ghost use lib.ListN.{length};
+ghost use lib.Seq.{paste};
+ghost use Rattle.encoder_samples.specs.Samples.{clamped};
+ghost use Rattle.text_line.specs.Line.{text, textOf, cut, spaces, aligned};
+ghost use Rattle.text_line.specs.Number.{numberText};
+ghost use Rattle.text_line.specs.Ratio.{minusText, hundredthsOf, hundredthsText, finiteText, ratioText};
+
+// The text is the first `length` bytes.
+pub struct Line {
+    pub bytes: [u8; 256],
+    pub length: usize,
+}
+
+impl Line {
+    // No text yet.
+    pub fn new() -> Line
+        ensures { λ r. ⌜ textOf r ≡ [] ⌝ }
+    {
+        Line {
+            bytes: [0; 256],
+            length: 0,
+        }
+    }
+
+    // With a text behind.
+    pub fn text(self, added: &[u8]) -> Line
+        ensures { λ r. ⌜ textOf r ≡ cut (textOf self ++ now (added .entry)) ⌝ }
+    {
+        let mut bytes = self.bytes;
+        let at = least(self.length, 256);
+        let n = least(added.len(), 256 - at);
+        copy(added, n, &mut bytes, at);
+        Line {
+            bytes,
+            length: at + n,
+        }
+    }
+
+    // With spaces behind.
+    fn spaces(self, n: usize) -> Line
+        ensures { λ r. ⌜ textOf r ≡ cut (textOf self ++ spaces n) ⌝ }
+    {
+        let blanks = blank();
+        let end = least(n, 256);
+        self.text(&blanks[..end])
+    }
+
+    // With another line's text behind, at the right of a column.
+    pub fn aligned(self, width: usize, column: Line) -> Line
+        ensures { λ r. ⌜ textOf r ≡ cut (textOf self ++ aligned width (textOf column)) ⌝ }
+    {
+        let bytes = column.bytes;
+        let length = least(column.length, 256);
+        let line = self.spaces(above(width, length));
+        line.text(&bytes[..length])
+    }
+
+    // With a number behind.
+    pub fn number(self, n: u64) -> Line
+        ensures { λ r. ⌜ textOf r ≡ cut (textOf self ++ numberText n) ⌝ }
+    {
+        let mut digits = [0u8; 20];
+        let count = io::decimal(n, &mut digits);
+        self.text(&digits[..count])
+    }
+
+    // With a number behind, at the right of a column.
+    pub fn number_in(self, width: usize, n: u64) -> Line
+        ensures { λ r. ⌜ textOf r ≡ cut (textOf self ++ aligned width (numberText n)) ⌝ }
+    {
+        self.aligned(width, Line::new().number(n))
+    }
+
+    // With a ratio in decibels behind, to the hundredth.
+    pub fn ratio(self, x: f64) -> Line
+        ensures { λ r. ⌜ textOf r ≡ cut (textOf self ++ ratioText x) ⌝ }
+    {
+        let infinity = 1.0 / 0.0;
+        let magnitude = ieee_order::abs(x);
+        if magnitude < infinity {
+            self.finite(x < 0.0, hundredths(magnitude))
+        } else if magnitude == infinity {
+            self.minus(x < 0.0).text(b"inf")
+        } else {
+            self.text(b"nan")
+        }
+    }
+
+    // With a ratio behind, at the right of a column.
+    pub fn ratio_in(self, width: usize, x: f64) -> Line
+        ensures { λ r. ⌜ textOf r ≡ cut (textOf self ++ aligned width (ratioText x)) ⌝ }
+    {
+        self.aligned(width, Line::new().ratio(x))
+    }
+
+    // With a finite ratio behind, from whether it is below 0 and its hundredths.
+    fn finite(self, below: bool, hundredths: u64) -> Line
+        ensures { λ r. ⌜ textOf r ≡ cut (textOf self ++ finiteText below hundredths) ⌝ }
+    {
+        if hundredths < 10_000_000 {
+            self.minus(below & (0 < hundredths)).fixed(hundredths)
+        } else {
+            self.beyond(below)
+        }
+    }
+
+    // With a number of hundredths behind.
+    fn fixed(self, hundredths: u64) -> Line
+        ensures { λ r. ⌜ textOf r ≡ cut (textOf self ++ hundredthsText hundredths) ⌝ }
+    {
+        let part = (hundredths % 100) as u8;
+        let digits = [48 + part / 10, 48 + part % 10];
+        self.number(hundredths / 100).text(b".").text(&digits)
+    }
+
+    // With what stands for a ratio of too many digits behind.
+    fn beyond(self, below: bool) -> Line
+        ensures { λ r. ⌜ textOf r ≡ cut (textOf self ++ cond below (text "<-99999") (text ">99999")) ⌝ }
+    {
+        if below {
+            self.text(b"<-99999")
+        } else {
+            self.text(b">99999")
+        }
+    }
+
+    // With a minus sign behind, or nothing.
+    fn minus(self, below: bool) -> Line
+        ensures { λ r. ⌜ textOf r ≡ cut (textOf self ++ minusText below) ⌝ }
+    {
+        if below { self.text(b"-") } else { self.text(b"") }
+    }
+}
+
+// As many spaces as a line holds.
+fn blank() -> [u8; 256]
+    ensures { λ r. ⌜ r ≡ spaces 256 ⌝ }
+{
+    [b' '; 256]
+}
+
+// Copies the first `n` bytes of `from` to where `at` is in `to`.
+fn copy(from: &[u8], n: usize, to: &mut [u8], at: usize)
+    requires { ⌜ (n ≤ length (now from)) × (at + n ≤ length (now to)) ⌝ }
+    ensures { λ _. ⌜ now (to .exit) ≡ paste (now (to .entry)) at (now (from .entry)) n ⌝ }
+{
+    let mut i: usize = 0;
+    while i < n {
+        to[at + i] = from[i];
+        i = i + 1;
+    }
+}
+
+// The smaller of two.
+fn least(a: usize, b: usize) -> usize
+    ensures { λ r. ⌜ r ≡ min a b ⌝ }
+{
+    if a < b { a } else { b }
+}
+
+// How much more `a` is than `b`, and 0 where it is not.
+fn above(a: usize, b: usize) -> usize
+    ensures { λ r. ⌜ r ≡ a - b ⌝ }
+{
+    if b < a { a - b } else { 0 }
+}
+
+// 100 times a magnitude, in one rounding, as the nearest whole number, halves up, at most 2^32; 0 for a NaN.
+fn hundredths(magnitude: f64) -> u64
+    ensures { λ r. ⌜ (r ≡ hundredthsOf magnitude) × (r ≤ 2 ^ 32) ⌝ }
+{
+    nearest_whole(magnitude * 100.0)
+}
+
+// The whole number nearest to `x`, halves up, at most 2^32; 0 where `x` is negative or NaN.
+fn nearest_whole(x: f64) -> u64
+    ensures { λ r. ⌜ (r ≡ clamped (2 ^ 32) 0 x) × (r ≤ 2 ^ 32) ⌝ }
+{
+    if x > 0.0 {
+        if x < 4294967296.0 {
+            // doubling is exact
+            let halves = std::num::truncating_f64_to_u64(x * 2.0);
+            (halves + 1) / 2
+        } else {
+            4_294_967_296
+        }
+    } else {
+        0
+    }
+}
