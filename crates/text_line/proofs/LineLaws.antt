@@ -87,10 +87,20 @@ columned t l r bytes width len k e a el er =
 
 -- ---- for those who build lines
 
--- a text in a line of its own
-pub alone : (l r t : List ℕ) → l ≡ [] → r ≡ cut (l ++ t) → length t ≤ 24 → r ≡ t
-alone l r t el er h = er ∙ ap (λ (s : List ℕ). cut (s ++ t)) el ∙ cut-whole t (omega arith)
-
 -- a text behind one that is known
 pub behind : {l r : List ℕ} (a b : List ℕ) → l ≡ cut a → r ≡ cut (l ++ b) → r ≡ cut (a ++ b)
 behind a b el er = er ∙ ap (λ (s : List ℕ). cut (s ++ b)) el ∙ cut-more a b
+
+-- one more behind those that stand behind t
+pub more : {l r : List ℕ} (t a b : List ℕ) → l ≡ cut (t ++ a) → r ≡ cut (l ++ b) → r ≡ cut (t ++ (a ++ b))
+more t a b el er = behind (t ++ a) b el er ∙ ap cut (append-assoc t a b)
+
+-- a text that a line holds whole, behind nothing
+pub alone : {l r : List ℕ} (t : List ℕ) → l ≡ [] → r ≡ cut (l ++ t) → length t ≤ 256 → r ≡ t
+alone t el er h = er ∙ ap (λ (s : List ℕ). cut (s ++ t)) el ∙ cut-whole t h
+
+-- ---- the length of a column
+
+pub column-length : (width : ℕ) (t : List ℕ) → length (aligned width t) ≤ width + length t
+unfolding aligned
+column-length width t = simp (length-append, length-replicate) (omega arith)

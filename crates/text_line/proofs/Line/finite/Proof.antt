@@ -1,9 +1,7 @@
 -- `text_line::Line::finite` meets its contract.
-use mathlib.Core.Path.{ap, _∙_}
-use mathlib.Core.List.{_++_, append-assoc}
 use borrow.Author.Tests.{lt-ltb, le-ltb}
-use Rattle.text_line.specs.Line.{textOf, cut}
-use Rattle.text_line.proofs.LineLaws.{behind}
+use Rattle.text_line.specs.Line.{textOf}
+use Rattle.text_line.proofs.LineLaws.{more}
 use borrow.Author.Needs.{needs}
 use Rattle.text_line.proofs.Line.finite.Statement.{statement}
 use Rattle.text_line.proofs.Line.finite.Tie as tie
@@ -22,7 +20,7 @@ returns c =
     let n = c .before .before in
     let s = n .before in
     rw (lt-ltb _ _ (n .if1 .taken))
-    (behind (textOf (s .args .self) ++ _) _ (c .before .minus .ensures) (c .fixed .ensures) ∙ ap cut (append-assoc (textOf (s .args .self)) _ _))
+    (more (textOf (s .args .self)) _ _ (c .before .minus .ensures) (c .fixed .ensures))
 
 returns-2 : tie.Need-returns-2
 returns-2 c = rw (le-ltb _ _ (c .before .if1 .left)) (c .beyond .ensures)

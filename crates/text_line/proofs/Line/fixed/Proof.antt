@@ -1,9 +1,8 @@
 -- `text_line::Line::fixed` meets its contract.
-use Rattle.text_line.proofs.LineLaws.{behind}
-use mathlib.Core.Path.{ap, _∙_}
-use mathlib.Core.List.{List, _++_, append-assoc}
-use Prim.Native.Nat.{ℕ, _/_, _%_}
-use Rattle.text_line.specs.Line.{text, textOf, cut}
+use Rattle.text_line.proofs.LineLaws.{more}
+use mathlib.Core.List.{_++_}
+use Prim.Native.Nat.{_/_, _%_}
+use Rattle.text_line.specs.Line.{text, textOf}
 use Rattle.text_line.specs.Number.{numberText}
 use Rattle.text_line.specs.Ratio.{twoDigits}
 use borrow.Author.Needs.{needs}
@@ -41,8 +40,7 @@ returns c =
     let h = n .before .args .hundredths in
     let a = numberText (h / 100) in
     let d = twoDigits (h % 100) in
-    behind ((t ++ a) ++ text ".") d (behind (t ++ a) (text ".") (n .number .ensures) (c .before .before .text .ensures)) (c .text2 .ensures)
-    ∙ ap cut (ap (λ (u : List ℕ). u ++ d) (append-assoc t a (text ".")) ∙ append-assoc t (a ++ text ".") d)
+    more t (a ++ text ".") d (more t a (text ".") (n .number .ensures) (c .before .before .text .ensures)) (c .text2 .ensures)
 
 pub fixed-spec : {M : Type 1} → statement M
 fixed-spec =

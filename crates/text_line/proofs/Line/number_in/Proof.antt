@@ -23,7 +23,7 @@ returns : tie.Need-returns
 returns c =
     let s = c .before .before .before in
     c .aligned .ensures
-    ∙ ap (λ (t : List ℕ). cut (textOf (s .args .self) ++ aligned (s .args .width) t)) (alone _ _ _ (c .before .before .new .ensures) (c .before .number .ensures) (let h = few-digits 20 (s .args .n) in omega arith))
+    ∙ ap (λ (t : List ℕ). cut (textOf (s .args .self) ++ aligned (s .args .width) t)) (alone _ (c .before .before .new .ensures) (c .before .number .ensures) (let h = few-digits 20 (s .args .n) in omega arith))
 
 pub number-in-spec : {M : Type 1} → statement M
 number-in-spec = tie.close (tie.spec new-requires number-requires aligned-requires returns)

@@ -1,12 +1,12 @@
 -- `text_line::Line::ratio` meets its contract.
 use mathlib.Core.Path.{_≡_, ap, sym, subst, _∙_}
 use mathlib.Core.Bool.{true, false}
-use mathlib.Core.List.{List, _++_, append-assoc}
+use mathlib.Core.List.{List, _++_}
 use Prim.Native.Nat.{ℕ}
 use lib.Ieee.{Float, lt, eq}
 use Rattle.text_line.specs.Line.{text, textOf, cut}
 use Rattle.text_line.specs.Ratio.{minusText, hundredthsOf, finiteText}
-use Rattle.text_line.proofs.LineLaws.{behind}
+use Rattle.text_line.proofs.LineLaws.{more}
 use Rattle.text_line.proofs.RatioLaws.{nought, infinity, is-finite, is-infinite, is-nan}
 use borrow.Author.Needs.{needs}
 use Rattle.text_line.proofs.Line.ratio.Statement.{statement}
@@ -52,8 +52,7 @@ returns-2 c =
     let s = a .before in
     let t = textOf (s .args .self) in
     let x = s .args .x in
-    behind (t ++ minusText (lt x nought)) (text "inf") (m .minus .ensures) (c .text .ensures)
-    ∙ ap cut (append-assoc t (minusText (lt x nought)) (text "inf"))
+    more t (minusText (lt x nought)) (text "inf") (m .minus .ensures) (c .text .ensures)
     ∙ ap (λ (u : List ℕ). cut (t ++ u))
     (sym
     (is-infinite x

@@ -2,6 +2,7 @@
 use mathlib.Core.Path.{ap, _∙_}
 use mathlib.Core.List.{List, _++_}
 use Prim.Native.Nat.{ℕ}
+use native.Mathlib.Omega.{arith}
 use Rattle.text_line.specs.Line.{textOf, cut, aligned}
 use Rattle.text_line.proofs.LineLaws.{alone}
 use Rattle.text_line.proofs.RatioLaws.{short-ratio}
@@ -23,7 +24,7 @@ returns c =
     let s = c .before .before .before in
     c .aligned .ensures
     ∙ ap (λ (t : List ℕ). cut (textOf (s .args .self) ++ aligned (s .args .width) t))
-    (alone _ _ _ (c .before .before .new .ensures) (c .before .ratio .ensures) (short-ratio (s .args .x)))
+    (alone _ (c .before .before .new .ensures) (c .before .ratio .ensures) (let h = short-ratio (s .args .x) in omega arith))
 
 pub ratio-in-spec : {M : Type 1} → statement M
 ratio-in-spec = tie.close (tie.spec new-requires ratio-requires aligned-requires returns)

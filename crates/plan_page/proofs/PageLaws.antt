@@ -1,0 +1,120 @@
+-- Laws of the page: which line stands where.
+use mathlib.Core.Path.{_≡_, refl, sym, ap, _∙_}
+use mathlib.Core.Bool.{Bool}
+use mathlib.Core.List.{List, [], _∷_, _++_}
+use Prim.Native.Nat.{ℕ, zero, suc, _+_, _-_, _≤_, _<_}
+use native.Mathlib.Omega.{arith}
+use lib.Dec.{eqb}
+use lib.Ieee.{Float}
+use lib.ListN.{length, getD, length-append, List·getD-append}
+use lib.Seq.{getD-append-add}
+use borrow.Author.Tests.{eq-eqb, ne-eqb}
+use Rattle.tables.specs.Listed.{tabulate}
+use Rattle.tables.proofs.Listed.{tabulated, length-tabulate}
+use Rattle.header.specs.declared.FrameHeader.{FrameHeader}
+use Rattle.header.specs.Header.{freeFormat}
+use Rattle.encoder_bit_budget.specs.declared.FixedBitBudget.{FixedBitBudget}
+use Rattle.encoder_bit_budget.specs.declared.Budget.{Budget}
+use Rattle.encoder_bit_budget.specs.Budget.{BudgetAnswer, BudgetIs, budgetIn, budgetOf, noBudget}
+use Rattle.encoder_bit_budget.specs.Demand.{demandOf}
+use Rattle.encoder_bit_allocator.specs.declared.Allocation.{Allocation}
+use Rattle.encoder_bit_allocator.specs.Allocation.{allocationOf}
+use Rattle.text_line.specs.Line.{text}
+use Rattle.plan_page.specs.Rows.{subbandLine}
+use Rattle.plan_page.specs.Refusal.{refusalLine}
+use Rattle.plan_page.specs.Page.{BudgetHeld, offeredOf, headOf, footOf, acceptedPage, pageBy, pageOf}
+
+-- ---- the two pages
+
+module _ (free : Bool) (banc : ℕ) (smr : List (List Float)) (b : FixedBitBudget) (demand : ℕ) (a : Allocation) where
+  opened-accepted : a .number ≡ 0 → pageBy free banc smr b demand a ≡ acceptedPage b (offeredOf b banc) demand (a .audio .«nb_steps») (a .left) smr
+  unfolding pageBy
+  opened-accepted z = rw (eq-eqb (a .number) 0 z)
+
+  opened-refused : (a .number ≡ 0 → ⊥) → pageBy free banc smr b demand a ≡ refusalLine free (a .number) (a .cb) (a .fixed) (a .banc) ∷ []
+  unfolding pageBy
+  opened-refused z = rw (ne-eqb (a .number) 0 z)
+
+module _ (h : FrameHeader) (banc : ℕ) (smr : List (List Float)) (a : Allocation) (e : a ≡ allocationOf h smr banc) where
+  by : pageOf h banc smr ≡ pageBy (freeFormat h) banc smr (budgetOf h .budget) (demandOf h smr .bits) a
+  unfolding pageOf
+  by = ap (pageBy (freeFormat h) banc smr (budgetOf h .budget) (demandOf h smr .bits)) (sym e)
+
+  pub page-accepted : (b : FixedBitBudget) (demand : ℕ) → b ≡ budgetOf h .budget → demand ≡ demandOf h smr .bits → a .number ≡ 0
+    → pageOf h banc smr ≡ acceptedPage b (offeredOf b banc) demand (a .audio .«nb_steps») (a .left) smr
+  page-accepted b demand q d z =
+      by
+      ∙ ap (λ (x : FixedBitBudget). pageBy (freeFormat h) banc smr x (demandOf h smr .bits) a) (sym q)
+      ∙ ap (λ (n : ℕ). pageBy (freeFormat h) banc smr b n a) (sym d)
+      ∙ opened-accepted (freeFormat h) banc smr b demand a z
+
+  pub page-refused : (a .number ≡ 0 → ⊥) → pageOf h banc smr ≡ refusalLine (freeFormat h) (a .number) (a .cb) (a .fixed) (a .banc) ∷ []
+  page-refused z = by ∙ opened-refused (freeFormat h) banc smr (budgetOf h .budget) (demandOf h smr .bits) a z
+
+-- ---- where a line stands on the page of an accepted request
+
+module _ (b : FixedBitBudget) (offered demand : ℕ) (steps : List ℕ) (left : ℕ) (smr : List (List Float)) where
+  abbrev head : List (List ℕ)
+  head = headOf b offered demand
+
+  abbrev body : List (List ℕ)
+  body = tabulate (b .sblimit) (subbandLine b steps smr)
+
+  abbrev foot : List (List ℕ)
+  foot = footOf offered left
+
+  until-foot : length (head ++ body) ≡ 6 + b .sblimit
+  until-foot = length-append head body ∙ ap (λ (n : ℕ). 6 + n) (length-tabulate (b .sblimit) (subbandLine b steps smr))
+
+  pub accepted-length : length (acceptedPage b offered demand steps left smr) ≡ 9 + b .sblimit
+  unfolding acceptedPage
+  accepted-length = length-append (head ++ body) foot ∙ omega (arith, until-foot)
+
+  pub in-head : (n : ℕ) → n < 6 → getD (acceptedPage b offered demand steps left smr) n [] ≡ getD (headOf b offered demand) n []
+  unfolding acceptedPage
+  in-head n h = List·getD-append (head ++ body) foot [] n (omega (arith, until-foot)) ∙ List·getD-append head body [] n h
+
+  pub in-rows : (n : ℕ) → 6 ≤ n → n - 6 < b .sblimit → getD (acceptedPage b offered demand steps left smr) n [] ≡ subbandLine b steps smr (n - 6)
+  unfolding acceptedPage
+  in-rows n h l =
+      let there : n ≡ 6 + (n - 6) = omega arith in
+      List·getD-append (head ++ body) foot [] n (omega (arith, until-foot))
+      ∙ ap (λ (k : ℕ). getD (head ++ body) k []) there
+      ∙ getD-append-add head body (n - 6) []
+      ∙ tabulated (b .sblimit) (subbandLine b steps smr) (n - 6) [] l
+
+  pub in-foot : (n : ℕ) → 6 ≤ n → b .sblimit ≤ n - 6 → getD (acceptedPage b offered demand steps left smr) n [] ≡ getD (footOf offered left) (n - 6 - b .sblimit) []
+  unfolding acceptedPage
+  in-foot n h l =
+      let there : n ≡ length (head ++ body) + (n - 6 - b .sblimit) = omega (arith, until-foot) in
+      ap (λ (k : ℕ). getD (head ++ body ++ foot) k []) there ∙ getD-append-add (head ++ body) foot (n - 6 - b .sblimit) []
+
+-- ---- the budget
+
+-- a refused header has the filler
+pub none-held : (h : FrameHeader) (r : Budget) (b : FixedBitBudget) (n : ℕ) → BudgetIs h r → budgetIn r ≡ record { answer = n; budget = noBudget } → b ≡ noBudget → BudgetHeld h b
+none-held h r b n f e q = record {
+  whole = q ∙ ap (λ (a : BudgetAnswer). a .budget) (sym e ∙ f .whole);
+  few = rw q (omega arith)
+}
+
+-- ---- the lines that are empty, and those behind the last
+
+pub no-head : (b : FixedBitBudget) (offered demand n : ℕ) → (n ≡ 0 → ⊥) → (n ≡ 1 → ⊥) → (n ≡ 2 → ⊥) → (n ≡ 3 → ⊥) → (n ≡ 5 → ⊥) → [] ≡ getD (headOf b offered demand) n []
+no-head b offered demand zero a c d e f = absurd (a refl)
+no-head b offered demand (suc zero) a c d e f = absurd (c refl)
+no-head b offered demand (suc (suc zero)) a c d e f = absurd (d refl)
+no-head b offered demand (suc (suc (suc zero))) a c d e f = absurd (e refl)
+no-head b offered demand (suc (suc (suc (suc zero)))) a c d e f = refl
+no-head b offered demand (suc (suc (suc (suc (suc zero))))) a c d e f = absurd (f refl)
+no-head b offered demand (suc (suc (suc (suc (suc (suc n)))))) a c d e f = refl
+
+pub no-foot : (offered left n : ℕ) → (n ≡ 1 → ⊥) → (n ≡ 2 → ⊥) → [] ≡ getD (footOf offered left) n []
+no-foot offered left zero a c = refl
+no-foot offered left (suc zero) a c = absurd (a refl)
+no-foot offered left (suc (suc zero)) a c = absurd (c refl)
+no-foot offered left (suc (suc (suc n))) a c = refl
+
+pub behind-last : (line : List ℕ) (n : ℕ) → (n ≡ 0 → ⊥) → [] ≡ getD (line ∷ []) n []
+behind-last line zero a = absurd (a refl)
+behind-last line (suc n) a = refl

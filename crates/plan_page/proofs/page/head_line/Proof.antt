@@ -1,0 +1,75 @@
+-- `plan_page::page::head_line` meets its contract.
+use mathlib.Core.Path.{ap, _∙_}
+use Rattle.text_line.specs.Line.{text}
+use Rattle.plan_page.specs.Lines.{bitsLine}
+use Rattle.plan_page.proofs.PageLaws.{no-head}
+use borrow.Author.Needs.{needs}
+use Rattle.plan_page.proofs.page.head_line.Statement.{statement}
+use Rattle.plan_page.proofs.page.head_line.Tie as tie
+
+frame-line-requires : tie.Need-frame-line-requires
+frame-line-requires c κs = search needs
+
+slice-aggregate-bits-line : tie.Need-slice-aggregate-bits-line
+slice-aggregate-bits-line c = search needs
+
+fixed-requires : tie.Need-fixed-requires
+fixed-requires c κs = search needs
+
+bits-line-requires : tie.Need-bits-line-requires
+bits-line-requires c κs = search needs
+
+slice-aggregate-bits-line-2 : tie.Need-slice-aggregate-bits-line-2
+slice-aggregate-bits-line-2 c = search needs
+
+bits-line-requires-2 : tie.Need-bits-line-requires-2
+bits-line-requires-2 c κs = search needs
+
+demand-line-requires : tie.Need-demand-line-requires
+demand-line-requires c κs = search needs
+
+heading-requires : tie.Need-heading-requires
+heading-requires c κs = search needs
+
+new-requires : tie.Need-new-requires
+new-requires c κs = search needs
+
+returns : tie.Need-returns
+returns c = rw (c .before .if1 .taken) (c .frame-line .ensures)
+
+returns-2 : tie.Need-returns-2
+returns-2 c = rw (c .before .before .before .if2 .taken) (c .bits-line .ensures ∙ ap (bitsLine (text "fixed   ")) (c .before .fixed .ensures))
+
+returns-3 : tie.Need-returns-3
+returns-3 c = rw (c .before .before .if3 .taken) (c .bits-line2 .ensures)
+
+returns-4 : tie.Need-returns-4
+returns-4 c = rw (c .before .if4 .taken) (c .demand-line .ensures)
+
+returns-5 : tie.Need-returns-5
+returns-5 c = rw (c .before .if5 .taken) (c .heading .ensures)
+
+returns-6 : tie.Need-returns-6
+returns-6 c =
+    let e = c .before .before .before in
+    c .new .ensures ∙ no-head _ _ _ _ (e .before .before .if1 .left) (e .before .if2 .left) (e .if3 .left) (c .before .before .if4 .left) (c .before .if5 .left)
+
+pub head-line-spec : {M : Type 1} → statement M
+head-line-spec =
+    tie.close
+    (tie.spec
+    frame-line-requires
+    slice-aggregate-bits-line
+    fixed-requires
+    bits-line-requires
+    slice-aggregate-bits-line-2
+    bits-line-requires-2
+    demand-line-requires
+    heading-requires
+    new-requires
+    returns
+    returns-2
+    returns-3
+    returns-4
+    returns-5
+    returns-6)

@@ -1,0 +1,60 @@
+-- The page that answers a request: a header, the ancillary bits and the signal-to-mask ratios.
+use Prim.Native.Nat.{ℕ, _+_, _-_, _≤_}
+use mathlib.Core.Path.{_≡_}
+use mathlib.Core.Bool.{Bool, cond}
+use mathlib.Core.List.{List, [], _∷_, _++_}
+use lib.Dec.{eqb}
+use lib.Ieee.{Float}
+use Rattle.tables.specs.Listed.{tabulate}
+use Rattle.header.specs.declared.FrameHeader.{FrameHeader}
+use Rattle.header.specs.Header.{freeFormat}
+use Rattle.encoder_bit_budget.specs.declared.FixedBitBudget.{FixedBitBudget}
+use Rattle.encoder_bit_budget.specs.Budget.{budgetOf, fixedIn}
+use Rattle.encoder_bit_budget.specs.Demand.{demandOf}
+use Rattle.encoder_bit_allocator.specs.declared.Allocation.{Allocation}
+use Rattle.encoder_bit_allocator.specs.Allocation.{allocationOf}
+use Rattle.text_line.specs.Line.{text}
+use Rattle.plan_page.specs.Rows.{headingLine, subbandLine}
+use Rattle.plan_page.specs.Lines.{frameLine, bitsLine, demandLine}
+use Rattle.plan_page.specs.Refusal.{refusalLine}
+
+-- what the frame leaves for scalefactors and samples; 0 where it leaves less than nothing, which is refused
+abbrev pub offeredOf : FixedBitBudget → ℕ → ℕ
+offeredOf b banc = b .cb - (fixedIn b + banc)
+
+-- the lines above the rows
+abbrev pub headOf : FixedBitBudget → ℕ → ℕ → List (List ℕ)
+headOf b offered demand =
+    frameLine b
+    ∷ bitsLine (text "fixed   ") (fixedIn b)
+    ∷ bitsLine (text "offered ") offered
+    ∷ demandLine demand offered
+    ∷ []
+    ∷ headingLine (b .channels)
+    ∷ []
+
+-- the lines below them: what is charged is what is no longer left
+abbrev pub footOf : ℕ → ℕ → List (List ℕ)
+footOf offered left = [] ∷ bitsLine (text "charged ") (offered - left) ∷ bitsLine (text "left    ") left ∷ []
+
+unfoldable pub acceptedPage : FixedBitBudget → ℕ → ℕ → List ℕ → ℕ → List (List Float) → List (List ℕ)
+acceptedPage b offered demand steps left smr =
+    headOf b offered demand ++ tabulate (b .sblimit) (subbandLine b steps smr) ++ footOf offered left
+
+-- the page from what the budget, the demand and the allocation answer
+unfoldable pub pageBy : Bool → ℕ → List (List Float) → FixedBitBudget → ℕ → Allocation → List (List ℕ)
+pageBy free banc smr b demand a =
+    cond (eqb (a .number) 0)
+    (acceptedPage b (offeredOf b banc) demand (a .audio .«nb_steps») (a .left) smr)
+    (refusalLine free (a .number) (a .cb) (a .fixed) (a .banc) ∷ [])
+
+-- the whole page, line by line
+unfoldable pub pageOf : FrameHeader → ℕ → List (List Float) → List (List ℕ)
+pageOf h banc smr = pageBy (freeFormat h) banc smr (budgetOf h .budget) (demandOf h smr .bits) (allocationOf h smr banc)
+
+-- ---- what a function promises
+
+-- the budget of a header, or the filler; either carries at most 30 subbands
+pub record BudgetHeld (h : FrameHeader) (b : FixedBitBudget) : Type 0 where
+  pub whole : b ≡ budgetOf h .budget
+  pub few : b .sblimit ≤ 30

@@ -1,0 +1,145 @@
+// The page, line by line.
+ghost use mathlib.Core.Path.{_≡_};
+ghost use mathlib.Core.List.{[]};
+ghost use Prim.Native.Nat.{_-_, _≤_};
+ghost use lib.ListN.{length, getD};
+ghost use Rattle.encoder_bit_budget.specs.Budget.{noBudget};
+ghost use Rattle.text_line.specs.Line.{textOf};
+ghost use Rattle.plan_page.specs.Page.{BudgetHeld, offeredOf, headOf, footOf, acceptedPage, pageOf};
+use crate::lines;
+use crate::refusal;
+use crate::rows;
+use bitalloc::BitAllocTable;
+use encoder_bit_budget::Budget;
+use encoder_bit_budget::FixedBitBudget;
+use header::FrameHeader;
+use text_line::Line;
+
+// How many lines the page has.
+pub fn page_length(header: FrameHeader, banc: u32, smr_db: [[f64; 32]; 2]) -> usize
+    ensures { λ r. ⌜ r ≡ length (pageOf header banc «smr_db») ⌝ }
+{
+    let a = encoder_bit_allocator::allocate_bits(header, smr_db, banc);
+    if a.number == 0 {
+        let b = budget_held(header);
+        9 + b.sblimit
+    } else {
+        1
+    }
+}
+
+// The line of a number, counted from 0; an empty one behind the last.
+pub fn page_line(header: FrameHeader, banc: u32, smr_db: [[f64; 32]; 2], n: usize) -> Line
+    ensures { λ r. ⌜ textOf r ≡ getD (pageOf header banc «smr_db») n [] ⌝ }
+{
+    let a = encoder_bit_allocator::allocate_bits(header, smr_db, banc);
+    if a.number == 0 {
+        let b = budget_held(header);
+        let demand = encoder_bit_budget::demand_bits(header, smr_db);
+        let audio = a.audio;
+        let steps = audio.nb_steps;
+        accepted_line(b, offered_bits(b, banc), demand.bits, steps, a.left as u64, smr_db, n)
+    } else if n == 0 {
+        refusal::refusal_line(header.is_free_format(), a.number, a.cb, a.fixed, a.banc)
+    } else {
+        Line::new()
+    }
+}
+
+// A line of the page of an accepted request.
+fn accepted_line(
+    b: FixedBitBudget,
+    offered: u64,
+    demand: u64,
+    steps: [u32; 64],
+    left: u64,
+    smr_db: [[f64; 32]; 2],
+    n: usize,
+) -> Line
+    requires { ⌜ b .sblimit ≤ 30 ⌝ }
+    ensures { λ r. ⌜ textOf r ≡ getD (acceptedPage b offered demand steps left «smr_db») n [] ⌝ }
+{
+    let sblimit = b.sblimit;
+    if n < 6 {
+        head_line(b, offered, demand, n)
+    } else if n - 6 < sblimit {
+        rows::subband_line(b, steps, smr_db, n - 6)
+    } else {
+        foot_line(offered, left, n - 6 - sblimit)
+    }
+}
+
+// A line above the rows.
+fn head_line(b: FixedBitBudget, offered: u64, demand: u64, n: usize) -> Line
+    ensures { λ r. ⌜ textOf r ≡ getD (headOf b offered demand) n [] ⌝ }
+{
+    if n == 0 {
+        lines::frame_line(b)
+    } else if n == 1 {
+        lines::bits_line(b"fixed   ", b.fixed())
+    } else if n == 2 {
+        lines::bits_line(b"offered ", offered)
+    } else if n == 3 {
+        lines::demand_line(demand, offered)
+    } else if n == 5 {
+        rows::heading(b.channels)
+    } else {
+        Line::new()
+    }
+}
+
+// A line below them.
+fn foot_line(offered: u64, left: u64, n: usize) -> Line
+    ensures { λ r. ⌜ textOf r ≡ getD (footOf offered left) n [] ⌝ }
+{
+    if n == 1 {
+        lines::bits_line(b"charged ", above(offered, left))
+    } else if n == 2 {
+        lines::bits_line(b"left    ", left)
+    } else {
+        Line::new()
+    }
+}
+
+// The budget of a header, or the filler where it has none.
+fn budget_held(header: FrameHeader) -> FixedBitBudget
+    ensures { λ r. ⌜ BudgetHeld header r ⌝ }
+{
+    let budget = encoder_bit_budget::fixed_bit_budget(header);
+    match budget {
+        Budget::Ok(b) => b,
+        Budget::NoBitallocTable => no_budget(),
+        Budget::ZeroSampleRate => no_budget(),
+        Budget::FrameTooLarge => no_budget(),
+    }
+}
+
+// What stands beside a refusal.
+fn no_budget() -> FixedBitBudget
+    ensures { λ r. ⌜ r ≡ noBudget ⌝ }
+{
+    FixedBitBudget {
+        cb: 0,
+        bhdr: 0,
+        bcrc: 0,
+        bbal: 0,
+        sblimit: 0,
+        bound: 0,
+        channels: 0,
+        table: BitAllocTable::B2a,
+    }
+}
+
+// The bits offered; 0 where the fixed and the ancillary bits are more than the frame's.
+fn offered_bits(b: FixedBitBudget, banc: u32) -> u64
+    ensures { λ r. ⌜ r ≡ offeredOf b banc ⌝ }
+{
+    above(b.cb as u64, b.fixed() + (banc as u64))
+}
+
+// How much more `a` is than `b`, and 0 where it is not.
+fn above(a: u64, b: u64) -> u64
+    ensures { λ r. ⌜ r ≡ a - b ⌝ }
+{
+    if b < a { a - b } else { 0 }
+}
