@@ -28,6 +28,13 @@ impl Line {
         }
     }
 
+    // How many bytes the text has.
+    pub fn size(self) -> usize
+        ensures { λ r. ⌜ (r ≡ length (textOf self)) × (r ≤ 256) ⌝ }
+    {
+        least(self.length, 256)
+    }
+
     // With a text behind.
     pub fn text(self, added: &[u8]) -> Line
         ensures { λ r. ⌜ textOf r ≡ cut (textOf self ++ now (added .entry)) ⌝ }
