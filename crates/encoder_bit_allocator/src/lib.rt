@@ -331,12 +331,14 @@ pub fn allocate_bits(header: FrameHeader, smr_db: [[f64; 32]; 2], banc: u32) -> 
     if spent <= (cb as u64) {
         return accepted(b, &smr_db, cb - (spent as u32));
     }
+    let audio = AudioData::filler();
+    let fixed_bits = fixed as u32;
     Allocation {
         number: 4,
-        audio: AudioData::filler(),
+        audio,
         left: 0,
         cb,
-        fixed: fixed as u32,
+        fixed: fixed_bits,
         banc,
     }
 }

@@ -64,8 +64,8 @@ returns-2 c =
 filler-requires : tie.Need-filler-requires
 filler-requires c κs = search needs
 
-cast-t17 : tie.Need-cast-t17
-cast-t17 c =
+cast-fixed-bits : tie.Need-cast-fixed-bits
+cast-fixed-bits c =
     let k = c .before .before .before .before in
     let g = k .budget .given in
     let h = k .before .before .fixed-bit-budget .ensures .bounded (g .0 .0) (g .1) .fixed in
@@ -96,5 +96,5 @@ allocate-bits-spec =
     accepted-requires
     returns-2
     filler-requires
-    cast-t17
+    cast-fixed-bits
     returns-3)
