@@ -1,3 +1,1 @@
-pub mod AnswerLaws
-pub mod ArgumentLaws
 pub mod SampleLaws

@@ -7,9 +7,9 @@ use native.Mathlib.Omega.{arith}
 use lib.Ieee.{Float}
 use lib.ListN.{length, getD, set, take, drop, length-take, length-drop}
 use Rattle.tables.proofs.Listed.{listed, tabulated, length-tabulate}
-use Rattle.folgrist_mp2.specs.Answers.{written}
-use Rattle.folgrist_mp2.specs.Replies.{subbandRows, byGranule}
-use Rattle.folgrist_mp2.proofs.AnswerLaws.{Putting, put-one, put-all}
+use Rattle.c_answers.specs.Answers.{written}
+use Rattle.c_answers.specs.Replies.{subbandRows, byGranule}
+use Rattle.c_answers.proofs.AnswerLaws.{Putting, put-one, put-all}
 
 module _ {A : Type 0} where
   drop-past : (n : ℕ) (l : List A) → length l ≤ n → drop n l ≡ []

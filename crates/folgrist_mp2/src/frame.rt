@@ -1,24 +1,17 @@
 // The functions of a header: the table that it selects, the bits of its frame, what they offer and what the ratios demand, and the allocation.
 ghost use mathlib.Core.Path.{_≡_};
 ghost use mathlib.Core.Bool.{_||_};
-ghost use mathlib.Core.List.{[], _∷_};
 ghost use lib.Dec.{ltb};
 ghost use lib.ListN.{length};
-ghost use Rattle.header.specs.Header.{sizeOf};
-ghost use Rattle.header.specs.Questions.{number};
-ghost use Rattle.bitalloc.specs.Options.{tableIn};
-ghost use Rattle.slots.specs.Slots.{rowsOf};
 ghost use Rattle.encoder_bit_budget.specs.Budget.{budgetIn};
-ghost use Rattle.folgrist_mp2.specs.Answers.{answered, Answers};
-ghost use Rattle.folgrist_mp2.specs.Arguments.{headerAsked};
-ghost use Rattle.folgrist_mp2.specs.Replies.{tableFound, tableOr, tableSelected, frameSized, BoundedIn, budgetValues, budgetFixed, bitsAvailable, bitsDemanded, stepsAllocated, bitsAllocated};
-use crate::arguments;
-use crate::arguments::HeaderGiven;
+ghost use Rattle.c_answers.specs.Answers.{answered, Answers};
+ghost use Rattle.c_answers.specs.Arguments.{headerAsked};
+ghost use Rattle.c_answers.specs.Replies.{tableSelected, frameSized, BoundedIn, budgetValues, budgetFixed, bitsAvailable, bitsDemanded, stepsAllocated, bitsAllocated};
+use c_answers::arguments;
+use c_answers::arguments::HeaderGiven;
+use c_answers::parts;
 use crate::writing;
-use bitalloc::OptionTable;
-use encoder_bit_allocator::Allocation;
-use encoder_bit_budget::{AvailableBits, Budget};
-use header::FrameSize;
+use encoder_bit_budget::Budget;
 
 // The allocation table that a header selects.
 #[no_mangle]
@@ -40,27 +33,9 @@ pub extern "C" fn folgrist_select_table(
         HeaderGiven::Refused(number) => number,
         HeaderGiven::Meant(header) => {
             let selected = bitalloc::select_table(header);
-            out[0] = selected_table(selected);
-            selected_number(selected)
+            out[0] = parts::selected_table(selected);
+            parts::selected_number(selected)
         }
-    }
-}
-
-fn selected_number(selected: OptionTable) -> u32
-    ensures { λ r. ⌜ r ≡ number (tableFound (tableIn selected) ∷ []) ⌝ }
-{
-    match selected {
-        OptionTable::Some(_) => 0,
-        OptionTable::None => 1,
-    }
-}
-
-fn selected_table(selected: OptionTable) -> u32
-    ensures { λ r. ⌜ r ≡ tableOr (tableIn selected) ⌝ }
-{
-    match selected {
-        OptionTable::Some(table) => arguments::number_of(table),
-        OptionTable::None => 0,
     }
 }
 
@@ -84,27 +59,9 @@ pub extern "C" fn folgrist_frame_size_bytes(
         HeaderGiven::Refused(number) => number,
         HeaderGiven::Meant(header) => {
             let size = header.frame_size_bytes();
-            out[0] = size_bytes(size);
-            size_number(size)
+            out[0] = parts::size_bytes(size);
+            parts::size_number(size)
         }
-    }
-}
-
-fn size_number(size: FrameSize) -> u32
-    ensures { λ r. ⌜ r ≡ sizeOf size .answer ⌝ }
-{
-    match size {
-        FrameSize::Bytes(_) => 0,
-        FrameSize::ZeroSampleRate => 2,
-    }
-}
-
-fn size_bytes(size: FrameSize) -> u64
-    ensures { λ r. ⌜ r ≡ sizeOf size .bytes ⌝ }
-{
-    match size {
-        FrameSize::Bytes(bytes) => bytes,
-        FrameSize::ZeroSampleRate => 0,
     }
 }
 
@@ -180,16 +137,10 @@ pub extern "C" fn folgrist_available_data_bits(
         HeaderGiven::Refused(number) => number,
         HeaderGiven::Meant(header) => {
             let available = encoder_bit_budget::available_data_bits(header, banc);
-            out[0] = offered_bits(available);
+            out[0] = parts::offered_bits(available);
             available.number
         }
     }
-}
-
-fn offered_bits(available: AvailableBits) -> i64
-    ensures { λ r. ⌜ r ≡ available .bits ⌝ }
-{
-    available.bits
 }
 
 // The bits that the signal-to-mask ratios demand.
@@ -243,18 +194,11 @@ pub extern "C" fn folgrist_allocate_bits(
         HeaderGiven::Refused(number) => number,
         HeaderGiven::Meant(header) => {
             let allocation = encoder_bit_allocator::allocate_bits(header, slots::rows(smr_db), banc);
-            let nb_steps = steps_by_slot(allocation);
+            let nb_steps = parts::steps_by_slot(allocation);
             let bits = [allocation.left, allocation.cb, allocation.fixed, allocation.banc];
             writing::put(&nb_steps, steps);
             writing::put(&bits, out);
             allocation.number
         }
     }
-}
-
-fn steps_by_slot(allocation: Allocation) -> [u32; 64]
-    ensures { λ r. ⌜ r ≡ allocation .audio .«nb_steps» ⌝ }
-{
-    let audio = allocation.audio;
-    audio.nb_steps
 }

@@ -1,6 +1,5 @@
 // The C library: each entry of the other crates as a function of numbers and slices, under the same definitions. The modules have the
-// exported functions by subject; `arguments` asks the first questions, `writing` fills the caller's slices.
-mod arguments;
+// exported functions by subject; `writing` fills slices.
 pub mod frame;
 pub mod samples;
 pub mod scalefactors;

@@ -1,14 +1,12 @@
 // The functions of samples: their codes, and the codewords of three.
-ghost use mathlib.Core.Path.{_≡_};
 ghost use mathlib.Core.Option.{some};
 ghost use mathlib.Core.List.{[], _∷_};
 ghost use lib.Dec.{ltb};
 ghost use lib.ListN.{length};
-ghost use Rattle.encoder_samples.specs.Entries.{codedOf};
-ghost use Rattle.folgrist_mp2.specs.Answers.{asked, answered, Answers};
-ghost use Rattle.folgrist_mp2.specs.Replies.{sampleCoded, tripletCoded};
+ghost use Rattle.c_answers.specs.Answers.{asked, answered, Answers};
+ghost use Rattle.c_answers.specs.Replies.{sampleCoded, tripletCoded};
 use crate::writing;
-use encoder_samples::SampleCode;
+use c_answers::parts;
 
 // The code of a sample in the class of a number of steps.
 #[no_mangle]
@@ -19,26 +17,8 @@ pub extern "C" fn folgrist_quantize_sample(steps: u32, sample: f64, out: &mut [u
         return 98;
     }
     let coded = encoder_samples::quantize_sample_for(steps, sample);
-    out[0] = sample_code(coded);
-    code_number(coded)
-}
-
-fn code_number(coded: SampleCode) -> u32
-    ensures { λ r. ⌜ r ≡ codedOf coded .answer ⌝ }
-{
-    match coded {
-        SampleCode::Code(_) => 0,
-        SampleCode::NoClass => 5,
-    }
-}
-
-fn sample_code(coded: SampleCode) -> u32
-    ensures { λ r. ⌜ r ≡ codedOf coded .code ⌝ }
-{
-    match coded {
-        SampleCode::Code(code) => code,
-        SampleCode::NoClass => 0,
-    }
+    out[0] = parts::sample_code(coded);
+    parts::code_number(coded)
 }
 
 // The codewords of three consecutive samples in the class of a number of steps.

@@ -7,8 +7,8 @@ ghost use Prim.Native.Nat.{_+_, _*_, _<_, _≤_};
 ghost use lib.Dec.{ltb};
 ghost use lib.ListN.{length, take, drop};
 ghost use Rattle.encoder_scalefactors.specs.Indices.{PickIs};
-ghost use Rattle.folgrist_mp2.specs.Answers.{asked, answered, written, Answers};
-ghost use Rattle.folgrist_mp2.specs.Replies.{granuleIndexed, subbandRows, byGranule, frameIndexed, scfsiSelected};
+ghost use Rattle.c_answers.specs.Answers.{asked, answered, written, Answers};
+ghost use Rattle.c_answers.specs.Replies.{granuleIndexed, subbandRows, byGranule, frameIndexed, scfsiSelected};
 use crate::writing;
 
 // The last index whose multiplier is at least `max_abs`.

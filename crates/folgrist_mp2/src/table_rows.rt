@@ -1,20 +1,17 @@
 // The functions of an allocation table, and of a number of steps alone.
-ghost use mathlib.Core.Path.{_≡_};
 ghost use mathlib.Core.Bool.{_||_};
 ghost use mathlib.Core.Option.{some};
-ghost use mathlib.Core.List.{[], _∷_};
 ghost use lib.Dec.{ltb};
 ghost use lib.ListN.{length};
-ghost use Rattle.header.specs.Questions.{number};
 ghost use Rattle.bitalloc.specs.Classes.{SampleBitsAre};
-ghost use Rattle.bitalloc.specs.Options.{classIn};
-ghost use Rattle.folgrist_mp2.specs.Answers.{asked, answered, Answers};
-ghost use Rattle.folgrist_mp2.specs.Arguments.{tableAsked};
-ghost use Rattle.folgrist_mp2.specs.Replies.{limitsAt, stepsFound, indexFound, classFound, classOr, figuresOf, coefficients, classFigures};
-use crate::arguments;
-use crate::arguments::TableGiven;
+ghost use Rattle.c_answers.specs.Answers.{asked, answered, Answers};
+ghost use Rattle.c_answers.specs.Arguments.{tableAsked};
+ghost use Rattle.c_answers.specs.Replies.{limitsAt, stepsFound, indexFound, coefficients, classFigures};
+use c_answers::arguments;
+use c_answers::arguments::TableGiven;
+use c_answers::parts;
 use crate::writing;
-use bitalloc::{OptionClass, OptionU32};
+use bitalloc::OptionU32;
 
 // How many subbands a table carries, and the bits of a subband's allocation field.
 #[no_mangle]
@@ -84,53 +81,11 @@ pub extern "C" fn folgrist_class_of_quantization(steps: u32, cd: &mut [f64], out
         return 98;
     }
     let found = bitalloc::class_of_quantization(steps);
-    cd[0] = coefficient_c(found);
-    cd[1] = coefficient_d(found);
-    let figures = figures(found);
+    cd[0] = parts::coefficient_c(found);
+    cd[1] = parts::coefficient_d(found);
+    let figures = parts::figures(found);
     writing::put(&figures, out);
-    class_number(found)
-}
-
-fn class_number(found: OptionClass) -> u32
-    ensures { λ r. ⌜ r ≡ number (classFound (classIn found) ∷ []) ⌝ }
-{
-    match found {
-        OptionClass::Some(_) => 0,
-        OptionClass::None => 5,
-    }
-}
-
-fn coefficient_c(found: OptionClass) -> f64
-    ensures { λ r. ⌜ r ≡ classOr (classIn found) .c ⌝ }
-{
-    match found {
-        OptionClass::Some(class) => class.c,
-        OptionClass::None => 0.0,
-    }
-}
-
-fn coefficient_d(found: OptionClass) -> f64
-    ensures { λ r. ⌜ r ≡ classOr (classIn found) .d ⌝ }
-{
-    match found {
-        OptionClass::Some(class) => class.d,
-        OptionClass::None => 0.0,
-    }
-}
-
-// Grouping, samples and bits per codeword, bits per sample.
-fn figures(found: OptionClass) -> [u32; 4]
-    ensures { λ r. ⌜ r ≡ figuresOf (classOr (classIn found)) ⌝ }
-{
-    match found {
-        OptionClass::Some(class) => [
-            class.grouping as u32,
-            class.samples_per_codeword,
-            class.bits_per_codeword,
-            class.bits_per_sample(),
-        ],
-        OptionClass::None => [0; 4],
-    }
+    parts::class_number(found)
 }
 
 // The bits of a subband's 36 samples.

@@ -2,7 +2,7 @@
 ghost use mathlib.Core.Path.{_≡_};
 ghost use Prim.Native.Nat.{_≤_};
 ghost use lib.ListN.{length};
-ghost use Rattle.folgrist_mp2.specs.Answers.{written};
+ghost use Rattle.c_answers.specs.Answers.{written};
 
 pub fn put(values: &[u32], out: &mut [u32])
     requires { ⌜ length (now values) ≤ length (now out) ⌝ }

@@ -4,10 +4,10 @@ use mathlib.Core.List.{[], _∷_}
 use native.Mathlib.Omega.{arith}
 use lib.ListN.{length}
 use borrow.Author.Needs.{needs}
-use Rattle.folgrist_mp2.proofs.AnswerLaws.{room, three-long, refused-by, meant-by}
-use Rattle.folgrist_mp2.proofs.ArgumentLaws.{header-refused, header-meant}
+use Rattle.c_answers.proofs.AnswerLaws.{room, three-long, refused-by, meant-by}
+use Rattle.c_answers.proofs.ArgumentLaws.{header-refused, header-meant}
 use Rattle.encoder_bit_allocator.specs.Allocation.{allocationOf}
-use Rattle.folgrist_mp2.specs.Answers.{reply}
+use Rattle.c_answers.specs.Answers.{reply}
 use Rattle.folgrist_mp2.proofs.frame.folgrist_allocate_bits.Statement.{statement}
 use Rattle.folgrist_mp2.proofs.frame.folgrist_allocate_bits.Tie as tie
 

@@ -6,9 +6,9 @@ use lib.IntN.{ℤ}
 use mir.Syntax.{w64}
 use mir.Facts.{toZ-ofZ}
 use borrow.Author.Needs.{needs}
-use Rattle.folgrist_mp2.proofs.AnswerLaws.{room, refused-by, one-by}
-use Rattle.folgrist_mp2.proofs.ArgumentLaws.{header-refused, header-meant}
-use Rattle.folgrist_mp2.specs.Answers.{reply}
+use Rattle.c_answers.proofs.AnswerLaws.{room, refused-by, one-by}
+use Rattle.c_answers.proofs.ArgumentLaws.{header-refused, header-meant}
+use Rattle.c_answers.specs.Answers.{reply}
 use Rattle.folgrist_mp2.proofs.frame.folgrist_available_data_bits.Statement.{statement}
 use Rattle.folgrist_mp2.proofs.frame.folgrist_available_data_bits.Tie as tie
 

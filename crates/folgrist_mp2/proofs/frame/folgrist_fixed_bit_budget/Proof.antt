@@ -2,10 +2,10 @@
 use borrow.Author.Tests.{ltb-false}
 use mathlib.Core.Path.{ap}
 use borrow.Author.Needs.{needs}
-use Rattle.folgrist_mp2.proofs.AnswerLaws.{room, refused-by, meant-by}
-use Rattle.folgrist_mp2.proofs.ArgumentLaws.{header-refused, header-meant}
-use Rattle.folgrist_mp2.specs.Answers.{reply}
-use Rattle.folgrist_mp2.specs.Replies.{budgetValues}
+use Rattle.c_answers.proofs.AnswerLaws.{room, refused-by, meant-by}
+use Rattle.c_answers.proofs.ArgumentLaws.{header-refused, header-meant}
+use Rattle.c_answers.specs.Answers.{reply}
+use Rattle.c_answers.specs.Replies.{budgetValues}
 use Rattle.folgrist_mp2.proofs.frame.folgrist_fixed_bit_budget.Statement.{statement}
 use Rattle.folgrist_mp2.proofs.frame.folgrist_fixed_bit_budget.Tie as tie
 

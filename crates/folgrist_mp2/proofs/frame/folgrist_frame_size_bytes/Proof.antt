@@ -3,9 +3,9 @@ use borrow.Author.Tests.{ltb-false}
 use mathlib.Core.Path.{ap}
 use mathlib.Core.List.{[], _∷_}
 use borrow.Author.Needs.{needs}
-use Rattle.folgrist_mp2.proofs.AnswerLaws.{room, refused-by, one-by}
-use Rattle.folgrist_mp2.proofs.ArgumentLaws.{header-refused, header-meant}
-use Rattle.folgrist_mp2.specs.Answers.{reply}
+use Rattle.c_answers.proofs.AnswerLaws.{room, refused-by, one-by}
+use Rattle.c_answers.proofs.ArgumentLaws.{header-refused, header-meant}
+use Rattle.c_answers.specs.Answers.{reply}
 use Rattle.folgrist_mp2.proofs.frame.folgrist_frame_size_bytes.Statement.{statement}
 use Rattle.folgrist_mp2.proofs.frame.folgrist_frame_size_bytes.Tie as tie
 

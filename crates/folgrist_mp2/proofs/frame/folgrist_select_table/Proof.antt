@@ -3,11 +3,11 @@ use borrow.Author.Tests.{ltb-false}
 use mathlib.Core.Path.{ap}
 use mathlib.Core.List.{[], _∷_}
 use borrow.Author.Needs.{needs}
-use Rattle.folgrist_mp2.proofs.AnswerLaws.{room, refused-by, one-by}
-use Rattle.folgrist_mp2.proofs.ArgumentLaws.{header-refused, header-meant}
+use Rattle.c_answers.proofs.AnswerLaws.{room, refused-by, one-by}
+use Rattle.c_answers.proofs.ArgumentLaws.{header-refused, header-meant}
 use Rattle.header.specs.Questions.{number}
-use Rattle.folgrist_mp2.specs.Answers.{reply}
-use Rattle.folgrist_mp2.specs.Replies.{tableFound, tableOr}
+use Rattle.c_answers.specs.Answers.{reply}
+use Rattle.c_answers.specs.Replies.{tableFound, tableOr}
 use Rattle.folgrist_mp2.proofs.frame.folgrist_select_table.Statement.{statement}
 use Rattle.folgrist_mp2.proofs.frame.folgrist_select_table.Tie as tie
 

@@ -3,8 +3,8 @@ use mathlib.Core.Path.{ap}
 use mathlib.Core.List.{[], _∷_}
 use borrow.Author.Tests.{lt-ltb, le-ltb}
 use borrow.Author.Needs.{needs}
-use Rattle.folgrist_mp2.proofs.AnswerLaws.{too-short, long-enough, refused-by, one-by}
-use Rattle.folgrist_mp2.specs.Answers.{reply}
+use Rattle.c_answers.proofs.AnswerLaws.{too-short, long-enough, refused-by, one-by}
+use Rattle.c_answers.specs.Answers.{reply}
 use Rattle.folgrist_mp2.proofs.samples.folgrist_quantize_sample.Statement.{statement}
 use Rattle.folgrist_mp2.proofs.samples.folgrist_quantize_sample.Tie as tie
 

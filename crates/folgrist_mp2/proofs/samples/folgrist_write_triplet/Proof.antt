@@ -2,9 +2,9 @@
 use mathlib.Core.Path.{ap}
 use borrow.Author.Tests.{lt-ltb, le-ltb}
 use borrow.Author.Needs.{needs}
-use Rattle.folgrist_mp2.proofs.AnswerLaws.{too-short, long-enough, refused-by, meant-by}
-use Rattle.folgrist_mp2.specs.Answers.{reply}
-use Rattle.folgrist_mp2.specs.Replies.{tripletValues}
+use Rattle.c_answers.proofs.AnswerLaws.{too-short, long-enough, refused-by, meant-by}
+use Rattle.c_answers.specs.Answers.{reply}
+use Rattle.c_answers.specs.Replies.{tripletValues}
 use Rattle.folgrist_mp2.proofs.samples.folgrist_write_triplet.Statement.{statement}
 use Rattle.folgrist_mp2.proofs.samples.folgrist_write_triplet.Tie as tie
 

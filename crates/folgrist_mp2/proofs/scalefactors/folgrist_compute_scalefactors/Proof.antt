@@ -2,10 +2,10 @@
 use mathlib.Core.Path.{ap, _∙_}
 use lib.ListN.{length}
 use borrow.Author.Needs.{needs}
-use Rattle.folgrist_mp2.proofs.AnswerLaws.{both-long, too-short, long-enough, refused-by, meant-by}
+use Rattle.c_answers.proofs.AnswerLaws.{both-long, too-short, long-enough, refused-by, meant-by}
 use Rattle.encoder_scalefactors.specs.Indices.{indicesOf}
-use Rattle.folgrist_mp2.specs.Answers.{reply}
-use Rattle.folgrist_mp2.specs.Replies.{byGranule}
+use Rattle.c_answers.specs.Answers.{reply}
+use Rattle.c_answers.specs.Replies.{byGranule}
 use Rattle.folgrist_mp2.proofs.scalefactors.folgrist_compute_scalefactors.Statement.{statement}
 use Rattle.folgrist_mp2.proofs.scalefactors.folgrist_compute_scalefactors.Tie as tie
 

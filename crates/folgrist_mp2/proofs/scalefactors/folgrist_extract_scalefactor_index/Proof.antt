@@ -3,9 +3,9 @@ use mathlib.Core.Path.{ap, _∙_}
 use mathlib.Core.List.{[], _∷_}
 use lib.ListN.{length}
 use borrow.Author.Needs.{needs}
-use Rattle.folgrist_mp2.proofs.AnswerLaws.{both-long, too-short, long-enough, refused-by, one-by}
+use Rattle.c_answers.proofs.AnswerLaws.{both-long, too-short, long-enough, refused-by, one-by}
 use Rattle.encoder_scalefactors.specs.Indices.{indexFrom}
-use Rattle.folgrist_mp2.specs.Answers.{reply}
+use Rattle.c_answers.specs.Answers.{reply}
 use Rattle.folgrist_mp2.proofs.scalefactors.folgrist_extract_scalefactor_index.Statement.{statement}
 use Rattle.folgrist_mp2.proofs.scalefactors.folgrist_extract_scalefactor_index.Tie as tie
 

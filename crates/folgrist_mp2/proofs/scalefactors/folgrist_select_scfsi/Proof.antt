@@ -2,9 +2,9 @@
 use mathlib.Core.Path.{ap, _∙_}
 use borrow.Author.Tests.{lt-ltb, le-ltb}
 use borrow.Author.Needs.{needs}
-use Rattle.folgrist_mp2.proofs.AnswerLaws.{too-short, long-enough, refused-by, meant-by, selection-listed}
-use Rattle.folgrist_mp2.specs.Answers.{reply}
-use Rattle.folgrist_mp2.specs.Replies.{selectionValues}
+use Rattle.c_answers.proofs.AnswerLaws.{too-short, long-enough, refused-by, meant-by, selection-listed}
+use Rattle.c_answers.specs.Answers.{reply}
+use Rattle.c_answers.specs.Replies.{selectionValues}
 use Rattle.folgrist_mp2.proofs.scalefactors.folgrist_select_scfsi.Statement.{statement}
 use Rattle.folgrist_mp2.proofs.scalefactors.folgrist_select_scfsi.Tie as tie
 

@@ -2,9 +2,9 @@
 use Prim.Native.Nat.{_-_}
 use native.Mathlib.Omega.{arith}
 use borrow.Author.Needs.{needs}
-use Rattle.folgrist_mp2.proofs.AnswerLaws.{Putting, put-none}
+use Rattle.c_answers.proofs.AnswerLaws.{Putting, put-none}
 use Rattle.folgrist_mp2.proofs.SampleLaws.{index-put, indices-put}
-use Rattle.folgrist_mp2.specs.Replies.{byGranule}
+use Rattle.c_answers.specs.Replies.{byGranule}
 use Rattle.folgrist_mp2.proofs.scalefactors.put_indices.Statement.{statement}
 use Rattle.folgrist_mp2.proofs.scalefactors.put_indices.Tie as tie
 

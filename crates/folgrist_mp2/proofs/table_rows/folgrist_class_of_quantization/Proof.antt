@@ -4,10 +4,10 @@ use mathlib.Core.List.{[], _∷_}
 use native.Mathlib.Omega.{arith}
 use lib.ListN.{length, length-set}
 use borrow.Author.Needs.{needs}
-use Rattle.folgrist_mp2.proofs.AnswerLaws.{both-long, two-written, too-short, long-enough, refused-by, meant-by}
+use Rattle.c_answers.proofs.AnswerLaws.{both-long, two-written, too-short, long-enough, refused-by, meant-by}
 use Rattle.header.specs.Questions.{number}
-use Rattle.folgrist_mp2.specs.Answers.{reply}
-use Rattle.folgrist_mp2.specs.Replies.{classFound, classOr, figuresOf}
+use Rattle.c_answers.specs.Answers.{reply}
+use Rattle.c_answers.specs.Replies.{classFound, classOr, figuresOf}
 use Rattle.folgrist_mp2.proofs.table_rows.folgrist_class_of_quantization.Statement.{statement}
 use Rattle.folgrist_mp2.proofs.table_rows.folgrist_class_of_quantization.Tie as tie
 

@@ -3,9 +3,9 @@ use borrow.Author.Tests.{ltb-false}
 use mathlib.Core.Path.{ap₂}
 use mathlib.Core.List.{[], _∷_}
 use borrow.Author.Needs.{needs}
-use Rattle.folgrist_mp2.proofs.AnswerLaws.{room, refused-by, meant-by}
-use Rattle.folgrist_mp2.proofs.ArgumentLaws.{table-refused, table-meant}
-use Rattle.folgrist_mp2.specs.Answers.{reply}
+use Rattle.c_answers.proofs.AnswerLaws.{room, refused-by, meant-by}
+use Rattle.c_answers.proofs.ArgumentLaws.{table-refused, table-meant}
+use Rattle.c_answers.specs.Answers.{reply}
 use Rattle.folgrist_mp2.proofs.table_rows.folgrist_table_limits.Statement.{statement}
 use Rattle.folgrist_mp2.proofs.table_rows.folgrist_table_limits.Tie as tie
 

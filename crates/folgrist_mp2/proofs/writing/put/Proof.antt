@@ -3,7 +3,7 @@ use Prim.Native.Nat.{_-_}
 use native.Mathlib.Omega.{arith}
 use lib.ListN.{length}
 use borrow.Author.Needs.{needs}
-use Rattle.folgrist_mp2.proofs.AnswerLaws.{Putting, put-none, put-one, put-all}
+use Rattle.c_answers.proofs.AnswerLaws.{Putting, put-none, put-one, put-all}
 use Rattle.folgrist_mp2.proofs.writing.put.Statement.{statement}
 use Rattle.folgrist_mp2.proofs.writing.put.Tie as tie
 

@@ -4,7 +4,7 @@ use native.Mathlib.Omega.{arith}
 use lib.Ieee.{nan}
 use lib.ListN.{length}
 use borrow.Author.Needs.{needs}
-use Rattle.folgrist_mp2.proofs.AnswerLaws.{Putting, put-none, put-one, put-all}
+use Rattle.c_answers.proofs.AnswerLaws.{Putting, put-none, put-one, put-all}
 use Rattle.folgrist_mp2.proofs.writing.put_samples.Statement.{statement}
 use Rattle.folgrist_mp2.proofs.writing.put_samples.Tie as tie
 

@@ -1,10 +1,10 @@
--- `folgrist_mp2::arguments::table_given` meets its contract: the numbers one by one.
+-- `c_answers::arguments::table_given` meets its contract: the numbers one by one.
 use mathlib.Core.Path.{refl}
 use native.Mathlib.Omega.{arith}
 use borrow.Author.Needs.{needs}
-use Rattle.folgrist_mp2.proofs.ArgumentLaws.{table-at, no-table}
-use Rattle.folgrist_mp2.proofs.arguments.table_given.Statement.{statement}
-use Rattle.folgrist_mp2.proofs.arguments.table_given.Tie as tie
+use Rattle.c_answers.proofs.ArgumentLaws.{table-at, no-table}
+use Rattle.c_answers.proofs.arguments.table_given.Statement.{statement}
+use Rattle.c_answers.proofs.arguments.table_given.Tie as tie
 
 returns : tie.Need-returns
 returns c = search needs

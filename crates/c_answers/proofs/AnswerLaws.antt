@@ -21,8 +21,8 @@ use Rattle.audio_data.specs.Scfsi.{codeOf}
 use Rattle.encoder_scfsi.specs.declared.ScfsiSelection.{ScfsiSelection}
 use Rattle.encoder_scfsi.specs.Class.{numberOf}
 use Rattle.encoder_scfsi.specs.Select.{bit}
-use Rattle.folgrist_mp2.specs.Answers.{Meaning, refused, meant, asked, Reply, reply, silent, answered, orNothing, written, Answers}
-use Rattle.folgrist_mp2.specs.Replies.{figuresOf, selectionValues}
+use Rattle.c_answers.specs.Answers.{Meaning, refused, meant, asked, Reply, reply, silent, answered, orNothing, written, Answers}
+use Rattle.c_answers.specs.Replies.{figuresOf, selectionValues}
 
 module _ {A : Type 0} where
   -- one value written

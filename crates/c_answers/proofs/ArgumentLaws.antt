@@ -13,12 +13,12 @@ use lib.Dec.{eqb}
 use Rattle.bitalloc.specs.declared.BitAllocTable.{BitAllocTable}
 use Rattle.bitalloc.specs.declared.BitAllocTable.the-variants.{B2a, B2b, B2c, B2d, B1Lsf}
 use Rattle.tables.proofs.Search.{past}
-use Rattle.folgrist_mp2.specs.declared.arguments.HeaderGiven.{HeaderGiven}
-use Rattle.folgrist_mp2.specs.declared.arguments.HeaderGiven.the-variants as Header
-use Rattle.folgrist_mp2.specs.declared.arguments.TableGiven.{TableGiven}
-use Rattle.folgrist_mp2.specs.declared.arguments.TableGiven.the-variants as Table
-use Rattle.folgrist_mp2.specs.Answers.{Meaning, refused, meant, asked}
-use Rattle.folgrist_mp2.specs.Arguments.{modeNumbered, extensionNumbered, inRange, headerIn, headerAsked, headerFrom, tableNumbered, tableAsked, tableFrom}
+use Rattle.c_answers.specs.declared.arguments.HeaderGiven.{HeaderGiven}
+use Rattle.c_answers.specs.declared.arguments.HeaderGiven.the-variants as Header
+use Rattle.c_answers.specs.declared.arguments.TableGiven.{TableGiven}
+use Rattle.c_answers.specs.declared.arguments.TableGiven.the-variants as Table
+use Rattle.c_answers.specs.Answers.{Meaning, refused, meant, asked}
+use Rattle.c_answers.specs.Arguments.{modeNumbered, extensionNumbered, inRange, headerIn, headerAsked, headerFrom, tableNumbered, tableAsked, tableFrom}
 
 -- what the code's enum tells of the arguments
 pub header-refused : (g : HeaderGiven) (m : Meaning FrameHeader) (n : ℕ) → headerFrom g ≡ m → g ≡ Header.Refused n → m ≡ refused n

@@ -31,8 +31,8 @@ use Rattle.encoder_bit_budget.specs.declared.Budget.the-variants.{Ok}
 use Rattle.encoder_bit_budget.specs.Budget.{isSome, budgetOf, availableOf, Bounded}
 use Rattle.encoder_bit_budget.specs.Demand.{demandOf}
 use Rattle.encoder_bit_allocator.specs.Allocation.{allocationOf}
-use Rattle.folgrist_mp2.specs.Answers.{Reply, reply, orNothing}
-use Rattle.folgrist_mp2.specs.Arguments.{numberOf}
+use Rattle.c_answers.specs.Answers.{Reply, reply, orNothing}
+use Rattle.c_answers.specs.Arguments.{numberOf}
 
 -- ---- of a header
 

@@ -12,11 +12,11 @@ use Rattle.header.specs.declared.ModeExtension.the-variants.{Bound4, Bound8, Bo
 use Rattle.header.specs.declared.FrameHeader.{FrameHeader}
 use Rattle.bitalloc.specs.declared.BitAllocTable.{BitAllocTable}
 use Rattle.bitalloc.specs.declared.BitAllocTable.the-variants.{B2a, B2b, B2c, B2d, B1Lsf}
-use Rattle.folgrist_mp2.specs.Answers.{Meaning, refused, meant, asked}
-use Rattle.folgrist_mp2.specs.declared.arguments.HeaderGiven.{HeaderGiven}
-use Rattle.folgrist_mp2.specs.declared.arguments.HeaderGiven.the-variants as Header
-use Rattle.folgrist_mp2.specs.declared.arguments.TableGiven.{TableGiven}
-use Rattle.folgrist_mp2.specs.declared.arguments.TableGiven.the-variants as Table
+use Rattle.c_answers.specs.Answers.{Meaning, refused, meant, asked}
+use Rattle.c_answers.specs.declared.arguments.HeaderGiven.{HeaderGiven}
+use Rattle.c_answers.specs.declared.arguments.HeaderGiven.the-variants as Header
+use Rattle.c_answers.specs.declared.arguments.TableGiven.{TableGiven}
+use Rattle.c_answers.specs.declared.arguments.TableGiven.the-variants as Table
 
 -- the modes 0 to 3; there is no other
 abbrev pub modeNumbered : ℕ → Mode

@@ -1,9 +1,9 @@
--- `folgrist_mp2::table_rows::figures` meets its contract: the class's, or zeros.
+-- `c_answers::parts::figures` meets its contract: the class's, or zeros.
 use borrow.Author.Needs.{needs}
-use Rattle.folgrist_mp2.proofs.AnswerLaws.{figures-listed}
+use Rattle.c_answers.proofs.AnswerLaws.{figures-listed}
 use Rattle.bitalloc.specs.Classes.{bitsPerSample}
-use Rattle.folgrist_mp2.proofs.table_rows.figures.Statement.{statement}
-use Rattle.folgrist_mp2.proofs.table_rows.figures.Tie as tie
+use Rattle.c_answers.proofs.parts.figures.Statement.{statement}
+use Rattle.c_answers.proofs.parts.figures.Tie as tie
 
 enum-known-found : tie.Need-enum-known-found
 enum-known-found c = search needs

@@ -1,6 +1,6 @@
 // From the numbers that C hands over to what they stand for, and the questions that every function asks first.
 ghost use mathlib.Core.Path.{_≡_};
-ghost use Rattle.folgrist_mp2.specs.Arguments.{modeNumbered, extensionNumbered, numberOf, headerAsked, headerFrom, tableAsked, tableFrom};
+ghost use Rattle.c_answers.specs.Arguments.{modeNumbered, extensionNumbered, numberOf, headerAsked, headerFrom, tableAsked, tableFrom};
 use bitalloc::BitAllocTable;
 use header::{FrameHeader, Mode, ModeExtension};
 
