@@ -11,7 +11,7 @@ use Rattle.text_line.specs.Line.{cut, spaces, aligned}
 -- ---- parts of lists
 
 module _ {A : Type 0} where
-  take-min : (k : ℕ) (l : List A) → take (min k (length l)) l ≡ take k l
+  pub take-min : (k : ℕ) (l : List A) → take (min k (length l)) l ≡ take k l
   take-min zero l = ap (λ (n : ℕ). take n l) (zero-min (length l))
   take-min (suc k) [] = take-nil (min (suc k) 0)
   take-min (suc k) (x ∷ xs) = ap (λ (n : ℕ). take n (x ∷ xs)) (suc-min-suc k (length xs)) ∙ ap (λ (r : List A). x ∷ r) (take-min k xs)
