@@ -1,20 +1,24 @@
 /*
  * Folgrist: the decisions of an MPEG Audio Layer II encoder (ISO/IEC 11172-3, ISO/IEC 13818-3), from subband samples to sample codes.
  *
- * Link with libfolgrist_mp2.a (`rt staticlib folgrist_mp2`). The library keeps no state, allocates no memory and calls nothing.
+ * Link with libfolgrist_mp2.a (`rt staticlib folgrist_mp2`). The library keeps no state and uses no heap; it calls nothing but memcpy and
+ * memset, and at most some 40 KB of stack. Calls from several threads do not disturb one another.
+ *
+ * Floating point. Call it in the default environment: rounding to nearest, subnormals neither flushed nor read as zero (no FTZ, no DAZ).
+ * Any double may be handed in, NaN and infinities included.
  *
  * Answers. A function returns the number of its answer, FOLGRIST_ACCEPTED or one of the others below, unless it is said to return a value.
  *
  * Slices. An array is two arguments, a pointer and its length in elements. A length below the one that the function's comment names is
  * answered FOLGRIST_SHORT_SLICE. A longer array is fine: what is behind the named length is neither read nor written. The pointer has to be
- * valid for the length given, and an array that is written may not overlap another. The pointer may not be null, even of length 0.
+ * aligned and valid for the length given, and an array that is written may not overlap another. The pointer may not be null, even of length 0.
  *
  * Order. FOLGRIST_SHORT_SLICE is asked first, then FOLGRIST_BAD_ARGUMENT, then FOLGRIST_NOTHING_THERE; with these three nothing is written.
  * With any other number everything is written: beside a number that is not 0 stand zeros, but for what the comment says.
  *
  * Header. Seven arguments, the same in each function that has them:
  *   lsf             0, or 1 for the low sampling frequencies of ISO/IEC 13818-3
- *   bit_rate        in bit/s; 0 is free format
+ *   bit_rate        in bit/s; 0 is free format, whose frame counts as 0 bytes (1 with padding), so that folgrist_allocate_bits answers 4
  *   sample_rate     in Hz
  *   padding         0, or 1 for one more byte
  *   protection_bit  as on the wire: 0 where a CRC follows the header, 1 where none does
@@ -104,15 +108,16 @@ uint32_t folgrist_available_data_bits(uint8_t lsf, uint32_t bit_rate, uint32_t s
                                       uint8_t mode, uint8_t mode_extension, uint32_t banc, int64_t *out, size_t out_len);
 
 /* The bits with which every allocation field has a mask-to-noise ratio of at least 0 dB or stands at its top place. smr_db, 64 elements by
- * slot: signal-to-mask ratios in dB, any doubles; those of subbands and channels that the frame does not carry are not read. out, 1
- * element: bits.
+ * slot: signal-to-mask ratios in dB; those of subbands and channels that the frame does not carry are not read. A field that serves both
+ * channels goes by the larger ratio, where a NaN beside a number yields the number; a NaN needs the top place. out, 1 element: bits.
  * Answers 0, 1, 2, 3, 14, 98. */
 uint32_t folgrist_demand_bits(uint8_t lsf, uint32_t bit_rate, uint32_t sample_rate, uint8_t padding, uint8_t protection_bit, uint8_t mode,
                               uint8_t mode_extension, const double *smr_db, size_t smr_db_len, uint64_t *out, size_t out_len);
 
 /* The bit allocation. banc: ancillary bits set aside. smr_db, 64 elements: as above. steps, 64 elements by slot: the number of quantization
- * steps, 0 where nothing is allocated. out, 4 elements: the bits left; and beside number 4 the bits of the frame, the fixed ones and banc,
- * which are 0 beside every other number.
+ * steps, 0 where nothing is allocated; from the bound on both channels have those of their shared field. A field's first step is charged 20
+ * bits for each channel that it serves besides its samples: scfsi and three scalefactors. out, 4 elements: the bits left; and beside number 4
+ * the bits of the frame, the fixed ones and banc, which are 0 beside every other number.
  * Answers 0, 1, 2, 3, 4, 14, 98. */
 uint32_t folgrist_allocate_bits(uint8_t lsf, uint32_t bit_rate, uint32_t sample_rate, uint8_t padding, uint8_t protection_bit, uint8_t mode,
                                 uint8_t mode_extension, uint32_t banc, const double *smr_db, size_t smr_db_len, uint32_t *steps,
@@ -146,12 +151,13 @@ uint32_t folgrist_sample_bits_for(uint32_t steps);
 /* Returns a value: the last scalefactor index, 0 to 62, whose multiplier is at least max_abs; 0 where there is none, as for a NaN. */
 uint8_t folgrist_pick_scalefactor_index(double max_abs);
 
-/* The scalefactor index of a granule. samples, 12 elements; a NaN is skipped. out, 1 element: the index.
+/* The scalefactor index of a granule. samples, 12 elements; a NaN is skipped, so that twelve give 62; a magnitude above 2.0 gives 0. out, 1
+ * element: the index.
  * Answers 0, 98. */
 uint32_t folgrist_extract_scalefactor_index(const double *samples, size_t samples_len, uint8_t *out, size_t out_len);
 
 /* The scalefactor indices of a frame, of one channel. samples, 1152 elements: 36 of each subband, those of subband 0 first. limit: how many
- * subbands are coded, at most 32 of them; the others have index 62. out, 96 elements: the indices of the 32 subbands in granule 0, then in
+ * subbands are coded, where more than 32 are taken as 32; the others have index 62. out, 96 elements: the indices of the 32 subbands in granule 0, then in
  * granule 1, then in granule 2.
  * Answers 0, 98. */
 uint32_t folgrist_compute_scalefactors(const double *samples, size_t samples_len, uint64_t limit, uint8_t *out, size_t out_len);
@@ -163,12 +169,14 @@ uint32_t folgrist_select_scfsi(uint8_t a, uint8_t b, uint8_t c, uint8_t *out, si
 
 /* ---- samples ---- */
 
-/* The code of a sample, given divided by its scalefactor, in the class of a number of steps. out, 1 element: the code.
+/* The code of a sample, given divided by its scalefactor, in the class of a number of steps. out, 1 element: the code, 0 to steps - 1 where
+ * the class is grouped, else 0 to 2^n - 1 with n bits per sample: at the top all ones, which names no step. Samples beyond the range get the
+ * code at its end, an infinity too; a NaN gets the middle one.
  * Answers 0, 5, 98. */
 uint32_t folgrist_quantize_sample(uint32_t steps, double sample, uint32_t *out, size_t out_len);
 
 /* The codewords of three consecutive samples in the class of a number of steps. out, 5 elements: how many codewords, the bits of each, and
- * three places for them, 0 where not used.
+ * three places for them, 0 where not used. A grouped class has one codeword: first code + steps * second + steps * steps * third.
  * Answers 0, 5, 98. */
 uint32_t folgrist_write_triplet(uint32_t steps, double a, double b, double c, uint32_t *out, size_t out_len);
 
