@@ -2,7 +2,7 @@
  * Folgrist: the decisions of an MPEG Audio Layer II encoder (ISO/IEC 11172-3, ISO/IEC 13818-3), from subband samples to sample codes.
  *
  * Link with libfolgrist_mp2.a (`rt staticlib folgrist_mp2`). The library keeps no state and uses no heap; it calls nothing but memcpy and
- * memset, and at most some 40 KB of stack. Calls from several threads do not disturb one another.
+ * memset, and takes some 20 KB of stack. Calls from several threads do not disturb one another.
  *
  * Floating point. Call it in the default environment: rounding to nearest, subnormals neither flushed nor read as zero (no FTZ, no DAZ).
  * Any double may be handed in, NaN and infinities included.
@@ -171,7 +171,7 @@ uint32_t folgrist_select_scfsi(uint8_t a, uint8_t b, uint8_t c, uint8_t *out, si
 
 /* The code of a sample, given divided by its scalefactor, in the class of a number of steps. out, 1 element: the code, 0 to steps - 1 where
  * the class is grouped, else 0 to 2^n - 1 with n bits per sample: at the top all ones, which names no step. Samples beyond the range get the
- * code at its end, an infinity too; a NaN gets the middle one.
+ * code at its end, an infinity too; a NaN gets 2^(n - 1).
  * Answers 0, 5, 98. */
 uint32_t folgrist_quantize_sample(uint32_t steps, double sample, uint32_t *out, size_t out_len);
 
