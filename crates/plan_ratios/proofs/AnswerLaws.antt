@@ -1,19 +1,18 @@
 -- The answer to a text, met token by token, and the slots that the code fills.
 use mathlib.Core.Path.{_≡_, refl, sym, ap, _∙_}
 use mathlib.Core.List.{List, [], _∷_, _++_}
-use mathlib.Core.Option.{Option, none, some}
-use Prim.Native.Nat.{ℕ, zero, suc, _+_, _-_, _≤_, _<_}
+use mathlib.Core.Option.{none, some}
+use Prim.Native.Nat.{ℕ, suc, _+_, _-_, _≤_, _<_}
 use native.Mathlib.Numerals.{add-one}
 use native.Mathlib.Omega.{arith}
-use lib.ListN.{length, take, drop, set, replicate, take-append-drop, length-take, length-set}
+use lib.ListN.{length, take, drop, set, take-append-drop, length-set}
 use lib.Seq.{drop-drop, drop-set-lt, take-suc-set, length-take-le}
 use lib.Ieee.{Float}
 use borrow.Author.Tests.{lt-ltb, le-ltb}
-use Rattle.plan_ratios.specs.declared.Ratios.{Ratios}
-use Rattle.plan_ratios.specs.declared.RatiosAnswer.the-variants.{Accepted, CannotRead, TooMany, TooFew}
+use Rattle.plan_ratios.specs.declared.RatiosAnswer.the-variants.{CannotRead, TooMany, TooFew}
 use Rattle.plan_ratios.specs.Ratio.{ratioOf}
 use Rattle.plan_ratios.specs.Tokens.{Token}
-use Rattle.plan_ratios.specs.Ratios.{empty, refused, accepted, whereRead, answered}
+use Rattle.plan_ratios.specs.Ratios.{empty, refused, accepted, answered}
 
 -- ---- one token more
 
@@ -71,5 +70,5 @@ module _ (ratios : List Float) (count : ℕ) (f : Filled ratios count) where
               drop-set-lt (count + 1) ratios count x (omega arith)
               ∙ sym (drop-drop 1 count ratios)
               ∙ ap (drop 1) (f .rest ∙ ap empty k)
-              ∙ emptied (64 - (count + 1))
+              ∙ emptied (64 - (count + 1));
         }

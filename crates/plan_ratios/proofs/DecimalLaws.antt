@@ -1,15 +1,15 @@
 -- A decimal number by one division: digits below 10 ^ 15 and powers of ten up to 10 ^ 15 are exact in binary64, so only the quotient is rounded.
-use mathlib.Core.Path.{_≡_, refl, sym, ap, _∙_, subst}
+use mathlib.Core.Path.{_≡_, refl}
 use mathlib.Core.Bool.{Bool, true, false, cond, _&&_}
-use mathlib.Core.List.{List, [], _∷_, _++_}
-use mathlib.Core.Option.{Option, none, some}
-use Prim.Native.Nat.{ℕ, zero, suc, _+_, _-_, _*_, _^_, _≤_, _<_}
+use mathlib.Core.List.{List, _++_}
+use mathlib.Core.Option.{none, some}
+use Prim.Native.Nat.{ℕ, _+_, _*_, _^_, _≤_, _<_}
 use native.Mathlib.Nat.{mul-pos, pow-le-pow-right}
 use native.Mathlib.Omega.{arith}
-use lib.IntN.{ℤ, pos}
-use lib.Dec.{T, eqb, leb}
+use lib.IntN.{pos}
+use lib.Dec.{leb}
 use lib.ListN.{length, length-append}
-use lib.Ieee.{Float, nan, inf, fin, binary64, up, down, round, div, ofInt, unlike}
+use lib.Ieee.{Float, nan, inf, fin, binary64, up, down, round, div, ofInt}
 use lib.Ieee.Exact.{HasValue}
 use lib.Ieee.Back.{round-whole}
 use lib.Ieee.Fits.{down-pos}
@@ -37,7 +37,7 @@ quotient (fin s m e) (fin t k f) n d p v w =
     (round-same binary64 false (n * down e * down f) (d * down f * down e) n d (mul-pos more (down-pos e)) p (omega arith))
 
 pub whole-quotient : (n d : ℕ) → n ≤ 2 ^ 53 → 0 < d → d ≤ 2 ^ 53
-  → div binary64 (ofInt binary64 (pos n)) (ofInt binary64 (pos d)) ≡ round binary64 false n d
+    → div binary64 (ofInt binary64 (pos n)) (ofInt binary64 (pos d)) ≡ round binary64 false n d
 unfolding ofInt
 whole-quotient n d h p g =
     quotient (round binary64 false n 1) (round binary64 false d 1) n d p (round-whole binary64 false n h) (round-whole binary64 false d g)
@@ -50,7 +50,7 @@ pub power-is : (i n p : ℕ) → i ≡ n → n ≤ 15 → p ≡ 10 ^ i → (p �
 power-is i n p e h q = rw (q, e) (refl, ten-pos n, tens n h)
 
 pub one-division : (n places : ℕ) → n < 10 ^ 15 → places ≤ 15
-  → div binary64 (ofInt binary64 (pos n)) (ofInt binary64 (pos (10 ^ places))) ≡ decimal places n
+    → div binary64 (ofInt binary64 (pos n)) (ofInt binary64 (pos (10 ^ places))) ≡ decimal places n
 unfolding decimal
 one-division n places h g =
     let t = tens places g in
@@ -72,12 +72,12 @@ module _ (a b : List ℕ) where
       go false = refl
 
   pub pointed-read : few (length a + length b) ≡ true → digits a ≡ true → digits b ≡ true
-    → pointed a b ≡ some (decimal (length b) (numeral a * 10 ^ length b + numeral b))
+      → pointed a b ≡ some (decimal (length b) (numeral a * 10 ^ length b + numeral b))
   unfolding pointed
   pointed-read h f g = rw (length-append a b, h, digits-append a b, f, g, numeral-append a b)
 
   pub pointed-less : few (length a + length b) ≡ true → digits a ≡ true → digits b ≡ true
-    → (length b ≤ 15) × (numeral a * 10 ^ length b + numeral b < 10 ^ 15)
+      → (length b ≤ 15) × (numeral a * 10 ^ length b + numeral b < 10 ^ 15)
   unfolding few
   pointed-less h f g =
       let n = length a + length b in

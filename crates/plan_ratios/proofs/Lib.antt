@@ -3,3 +3,4 @@ pub mod RatioLaws
 pub mod TokenLaws
 pub mod AnswerLaws
 pub mod WalkLaws
+pub mod Examples

@@ -1,21 +1,19 @@
 -- Laws of how a ratio is written.
-use mathlib.Core.Path.{_≡_, refl, sym, ap, _∙_}
-use mathlib.Core.Bool.{Bool, true, false, cond}
+use mathlib.Core.Path.{_≡_, refl, ap}
 use mathlib.Core.List.{List, [], _∷_}
 use mathlib.Core.Option.{Option, none, some, Option·map}
-use Prim.Native.Nat.{ℕ, zero, suc, _+_, _-_, _≤_, _<_, min}
+use Prim.Native.Nat.{ℕ, _+_, _-_, min}
 use native.Mathlib.Omega.{arith}
-use lib.Dec.{eqb}
 use borrow.Author.Tests.{ne-eqb}
 use lib.ListN.{length, getD, take, drop}
 use lib.Ieee.{Float, neg}
 use Rattle.plan_text.specs.Bytes.{reach}
 use Rattle.plan_text.proofs.ByteLaws.{drop-past, take-rest}
-use Rattle.plan_ratios.specs.Ratio.{isPoint, pointed, unsigned, leads, signed, wordValue, orElse, ratioOf}
+use Rattle.plan_ratios.specs.Ratio.{isPoint, pointed, unsigned, signed, wordValue, orElse, ratioOf}
 
 -- the two parts of a number, as the code cuts them
 pub two-parts : (t : List ℕ) (r s : ℕ) → r ≡ 0 + reach isPoint (drop 0 t) → s ≡ min (r + 1) (length t)
-  → pointed (take r t) (take (length t - s) (drop s t)) ≡ unsigned t
+    → pointed (take r t) (take (length t - s) (drop s t)) ≡ unsigned t
 unfolding unsigned
 two-parts t r s e f =
     let g : r ≡ reach isPoint t = omega arith in

@@ -2,9 +2,9 @@
 use mathlib.Core.Path.{_≡_, refl, sym, ap, _∙_, subst}
 use mathlib.Core.Bool.{Bool, true, false, cond, _||_}
 use mathlib.Core.List.{List, [], _∷_, _++_, map}
-use Prim.Native.Nat.{ℕ, zero, suc, _+_, _-_, _≤_, _<_}
+use Prim.Native.Nat.{ℕ, suc, _+_, _-_, _≤_, _<_}
 use native.Mathlib.Omega.{arith}
-use lib.Dec.{T, eqb}
+use lib.Dec.{T}
 use native.Mathlib.Numerals.{add-one}
 use lib.ListN.{length, getD, take, drop}
 use lib.Seq.{drop-cons, drop-drop}
@@ -65,7 +65,7 @@ others-are n [] = refl
 others-are n (b ∷ bs) = go (endsLine b) refl (others-are n bs)
   where
     go : (t : Bool) → endsLine b ≡ t → others n (pieces endsLine bs) ≡ tokensFrom n (drop (reach endsLine bs) bs)
-      → others n (cond t ([] ∷ pieces endsLine bs) (onto b (pieces endsLine bs))) ≡ tokensFrom n (drop (cond t 0 (suc (reach endsLine bs))) (b ∷ bs))
+        → others n (cond t ([] ∷ pieces endsLine bs) (onto b (pieces endsLine bs))) ≡ tokensFrom n (drop (cond t 0 (suc (reach endsLine bs))) (b ∷ bs))
     go true e h = rw e
     go false e h = others-onto n b (pieces endsLine bs) ∙ h
 
@@ -104,18 +104,21 @@ module _ (n : ℕ) (b : ℕ) (h : Plain b) where
     where
       P : List (List ℕ)
       P = pieces endsLine bs
+
       blank : (t : Bool) → isBlank c ≡ t → isHash c ≡ false → false || false || t ≡ true → (Q : List (List ℕ))
-        → numbered n (onto b (onto c Q)) ≡ onLine n (b ∷ []) ∷ numbered n (onto c Q)
+          → numbered n (onto b (onto c Q)) ≡ onLine n (b ∷ []) ∷ numbered n (onto c Q)
       blank true g f e [] = rw (plain-front b (c ∷ []) h, f, g)
       blank true g f e (w ∷ ws) = rw (plain-front b (c ∷ w) h, f, g)
       blank false g f e Q = absurd (subst T (sym e) tt)
+
       hash : (t : Bool) → isHash c ≡ t → false || t || isBlank c ≡ true → (Q : List (List ℕ))
-        → numbered n (onto b (onto c Q)) ≡ onLine n (b ∷ []) ∷ numbered n (onto c Q)
+          → numbered n (onto b (onto c Q)) ≡ onLine n (b ∷ []) ∷ numbered n (onto c Q)
       hash true f e [] = rw (plain-front b (c ∷ []) h, f)
       hash true f e (w ∷ ws) = rw (plain-front b (c ∷ w) h, f)
       hash false f e Q = blank (isBlank c) refl f e Q
+
       feed : (t : Bool) → endsLine c ≡ t
-        → numbered n (onto b (cond t ([] ∷ P) (onto c P))) ≡ onLine n (b ∷ []) ∷ numbered n (cond t ([] ∷ P) (onto c P))
+          → numbered n (onto b (cond t ([] ∷ P) (onto c P))) ≡ onLine n (b ∷ []) ∷ numbered n (cond t ([] ∷ P) (onto c P))
       feed true g = alone [] P refl
       feed false g = hash (isHash c) refl (subst (λ (t : Bool). t || isHash c || isBlank c ≡ true) g e) P
 
@@ -127,22 +130,24 @@ plain-byte b e =
 
 -- a token goes to the next byte that ends one
 pub token-first : (n b : ℕ) (bs : List ℕ) → Plain b
-  → tokensFrom n (b ∷ bs) ≡ onLine n (b ∷ take (reach isEnd bs) bs) ∷ tokensFrom n (drop (reach isEnd bs) bs)
+    → tokensFrom n (b ∷ bs) ≡ onLine n (b ∷ take (reach isEnd bs) bs) ∷ tokensFrom n (drop (reach isEnd bs) bs)
 unfolding tokensFrom
 token-first n b [] h = rw (h .noLine) (alone n b h [] [] refl)
 token-first n b (c ∷ bs) h = go (isEnd c) refl (λ g. token-first n c bs g)
   where
     r : ℕ
     r = reach isEnd bs
+
     next : Plain c → tokensFrom n (b ∷ c ∷ bs) ≡ grown b (tokensFrom n (c ∷ bs))
     next g = rw (h .noLine, g .noLine) (on (pieces endsLine bs))
       where
         on : (P : List (List ℕ)) → numbered n (onto b (onto c P)) ≡ grown b (numbered n (onto c P))
         on [] = two n b h c [] [] g
         on (w ∷ ws) = two n b h c w ws g
+
     go : (t : Bool) → isEnd c ≡ t → (Plain c → tokensFrom n (c ∷ bs) ≡ onLine n (c ∷ take r bs) ∷ tokensFrom n (drop r bs))
-      → tokensFrom n (b ∷ c ∷ bs)
-      ≡ onLine n (b ∷ take (cond t 0 (suc r)) (c ∷ bs)) ∷ tokensFrom n (drop (cond t 0 (suc r)) (c ∷ bs))
+        → tokensFrom n (b ∷ c ∷ bs)
+        ≡ onLine n (b ∷ take (cond t 0 (suc r)) (c ∷ bs)) ∷ tokensFrom n (drop (cond t 0 (suc r)) (c ∷ bs))
     go true e f = before-end n b h c bs e
     go false e f = let g = plain-byte c e in next g ∙ ap (grown b) (f g)
 
@@ -153,34 +158,38 @@ gap-first n b bs e = feed (endsLine b) refl e
   where
     plus : n + 0 ≡ n
     plus = omega arith
+
     blank : (t : Bool) → isBlank b ≡ t → endsLine b ≡ false → isHash b ≡ false → false || false || t ≡ true → tokensFrom n (b ∷ bs) ≡ tokensFrom (n + 0) bs
     blank true g l h e = rw plus (blank-first n b bs l h g)
     blank false g l h e = absurd (subst T (sym e) tt)
+
     hash : (t : Bool) → isHash b ≡ t → endsLine b ≡ false → false || t || isBlank b ≡ true
-      → tokensFrom n (b ∷ bs) ≡ tokensFrom (n + 0) (drop (cond t (suc (reach endsLine bs)) 1) (b ∷ bs))
+        → tokensFrom n (b ∷ bs) ≡ tokensFrom (n + 0) (drop (cond t (suc (reach endsLine bs)) 1) (b ∷ bs))
     hash true h l e = rw plus (hash-first n b bs l h)
     hash false h l e = blank (isBlank b) refl l h e
+
     unhashed : endsLine b ≡ true → isHash b ≡ false
     unhashed l = let z = eqb-true b 10 l in ne-eqb b 35 (λ (y : b ≡ 35). omega arith)
+
     feed : (t : Bool) → endsLine b ≡ t → t || isHash b || isBlank b ≡ true
-      → tokensFrom n (b ∷ bs) ≡ tokensFrom (n + cond t 1 0) (drop (gap (b ∷ bs)) (b ∷ bs))
+        → tokensFrom n (b ∷ bs) ≡ tokensFrom (n + cond t 1 0) (drop (gap (b ∷ bs)) (b ∷ bs))
     feed true l e = rw (unhashed l) (rw (← add-one n) at (feed-first n b bs l))
     feed false l e = hash (isHash b) refl l e
 
 module _ (text : List ℕ) (i : ℕ) (h : i < length text) where
   -- with the line feeds before the gap, and those in it
   pub gap-at : (feeds f r : ℕ) → isEnd (getD text i 0) ≡ true → f ≡ cond (endsLine (getD text i 0)) 1 0 → r ≡ i + gap (drop i text)
-    → tokensFrom (feeds + 1) (drop i text) ≡ tokensFrom (feeds + f + 1) (drop r text)
+      → tokensFrom (feeds + 1) (drop i text) ≡ tokensFrom (feeds + f + 1) (drop r text)
   gap-at feeds f r e k g =
       let c = drop-cons text i 0 h in
       let b = getD text i 0 in
       let d : drop r text ≡ drop (gap (drop i text)) (drop i text) =
-          ap (λ (j : ℕ). drop j text) g ∙ sym (drop-drop (gap (drop i text)) i text) in
+      ap (λ (j : ℕ). drop j text) g ∙ sym (drop-drop (gap (drop i text)) i text) in
       let n : feeds + f + 1 ≡ feeds + 1 + cond (endsLine b) 1 0 = omega arith in
       rw (n, d, c) (gap-first (feeds + 1) b (drop (suc i) text) e)
 
   pub token-at : (n e : ℕ) → isEnd (getD text i 0) ≡ false → e ≡ i + reach isEnd (drop i text)
-    → tokensFrom n (drop i text) ≡ onLine n (take (e - i) (drop i text)) ∷ tokensFrom n (drop e text)
+      → tokensFrom n (drop i text) ≡ onLine n (take (e - i) (drop i text)) ∷ tokensFrom n (drop e text)
   token-at n e g f =
       let c = drop-cons text i 0 h in
       let b = getD text i 0 in
@@ -193,7 +202,7 @@ module _ (text : List ℕ) (i : ℕ) (h : i < length text) where
   token-less e g f = let q = rw (drop-cons text i 0 h, g) at f in omega arith
 
   pub gap-hash : (r : ℕ) → getD text i 0 ≡ 35 → r ≡ i + 1 + reach endsLine (drop (i + 1) text)
-    → (r ≡ i + gap (drop i text)) × (i < r) × (r ≤ length text)
+      → (r ≡ i + gap (drop i text)) × (i < r) × (r ≤ length text)
   gap-hash r e f =
       let m = found-most endsLine text (i + 1) r (omega arith) f in
       (rw (drop-cons text i 0 h, eq-eqb (getD text i 0) 35 e) (rw (add-one i) at (f ∙ after)), omega arith, m)

@@ -1,18 +1,17 @@
 -- The walk over a text: what holds before each token, and what follows where it ends.
-use mathlib.Core.Path.{_≡_, refl, sym, ap, _∙_, subst}
-use mathlib.Core.List.{List, [], _∷_, _++_}
-use mathlib.Core.Option.{Option, none, some}
-use Prim.Native.Nat.{ℕ, zero, suc, _+_, _-_, _≤_, _<_}
+use mathlib.Core.Path.{_≡_, ap, _∙_, subst}
+use mathlib.Core.List.{List, [], _∷_}
+use mathlib.Core.Option.{none, some}
+use Prim.Native.Nat.{ℕ, _+_, _-_, _≤_, _<_}
 use native.Mathlib.Omega.{arith}
 use lib.ListN.{length, take, drop, set, drop-of-length-le}
 use lib.Ieee.{Float}
 use Rattle.plan_text.specs.Bytes.{reach, pieces}
 use Rattle.plan_text.proofs.ByteLaws.{found-most}
 use Rattle.plan_ratios.specs.declared.Gap.{Gap}
-use Rattle.plan_ratios.specs.declared.Ratios.{Ratios}
 use Rattle.plan_ratios.specs.declared.RatiosAnswer.the-variants.{Accepted, CannotRead, TooMany, TooFew}
 use Rattle.plan_ratios.specs.Ratio.{ratioOf}
-use Rattle.plan_ratios.specs.Tokens.{Token, endsLine, isEnd, onLine, tokensFrom}
+use Rattle.plan_ratios.specs.Tokens.{endsLine, isEnd, onLine, tokensFrom}
 use Rattle.plan_ratios.specs.Ratios.{slotsOf, empty, refused, accepted, answered, ratiosOf}
 use Rattle.plan_ratios.specs.Walk.{Reached, Skipped}
 use Rattle.plan_ratios.proofs.TokenLaws.{token-at, token-less}
@@ -30,17 +29,17 @@ pub record Walked (text : List ℕ) (channels slots : ℕ) (ratios : List Float)
   pub left : ratiosOf channels text ≡ answered slots (lines text) (take count ratios) (tokensFrom (feeds + 1) (drop at text))
 
 pub at-first : (text : List ℕ) (channels slots : ℕ) (ratios : List Float) (r : Gap) → slots ≡ slotsOf channels → ratios ≡ empty 64 → Skipped text 0 0 r
-  → Walked text channels slots ratios 0 (r .at) (r .feeds)
+    → Walked text channels slots ratios 0 (r .at) (r .feeds)
 unfolding ratiosOf empty
 at-first text channels slots ratios r e f k = record {
   room = omega arith;
   filled = record { long = rw f; most = omega arith; rest = f };
   reached = k .reached;
-  left = rw e (ap (answered (slotsOf channels) (lines text) []) (k .kept))
+  left = rw e (ap (answered (slotsOf channels) (lines text) []) (k .kept));
 }
 
 module _ (text : List ℕ) (channels slots : ℕ) (fits : slots ≤ 64) (ratios : List Float) (count at feeds : ℕ)
-  (w : Walked text channels slots ratios count at feeds) where
+    (w : Walked text channels slots ratios count at feeds) where
   got : List Float
   got = take count ratios
 
@@ -84,7 +83,7 @@ module _ (text : List ℕ) (channels slots : ℕ) (fits : slots ≤ 64) (ratios 
       below = subst (λ (n : ℕ). n < slots) as-many less
 
       pub at-read : (x : Float) (r : Gap) → ratioOf (take (e - at) (drop at text)) ≡ some x → Skipped text e feeds r
-        → Walked text channels slots (set ratios count x) (count + 1) (r .at) (r .feeds)
+          → Walked text channels slots (set ratios count x) (count + 1) (r .at) (r .feeds)
       unfolding got token
       at-read x r q k =
           let b = below in
@@ -96,7 +95,7 @@ module _ (text : List ℕ) (channels slots : ℕ) (fits : slots ≤ 64) (ratios 
             left =
                 met
                 ∙ read slots (lines text) got (onLine (feeds + 1) token) (tokensFrom (feeds + 1) (drop e text)) x less q
-                ∙ rw (more ratios count (w .filled) x l, k .kept)
+                ∙ rw (more ratios count (w .filled) x l, k .kept);
           }
 
   -- at the end of the text

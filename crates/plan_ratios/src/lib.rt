@@ -1,6 +1,6 @@
 // Reading signal-to-mask ratios, in decibels, from a text.
 ghost use mathlib.Core.Path.{_≡_};
-ghost use Prim.Native.Nat.{_+_, _-_, _*_, _^_, _≤_, _<_};
+ghost use Prim.Native.Nat.{_+_, _*_, _^_, _≤_, _<_};
 ghost use mathlib.Core.Option.{Option·map};
 ghost use lib.Ieee.{neg};
 ghost use Rattle.tables.specs.Decimal.{decimal};

@@ -2,7 +2,7 @@
 use mathlib.Core.Path.{_≡_, refl, sym, ap, _∙_, subst}
 use mathlib.Core.Bool.{Bool, true, false, cond, _&&_}
 use mathlib.Core.List.{List, [], _∷_}
-use Prim.Native.Nat.{ℕ, zero, suc, _+_, _-_, _≤_, _<_, min, suc-le-suc}
+use Prim.Native.Nat.{ℕ, suc, _+_, _-_, _≤_, _<_, min, suc-le-suc}
 use native.Mathlib.Nat.{not-suc-le-zero, zero-lt-suc}
 use native.Mathlib.Numerals.{add-one}
 use native.Mathlib.Omega.{arith}
@@ -92,22 +92,23 @@ module _ (p : ℕ → Bool) where
     where
       cs : List ℕ
       cs = c ∷ bs
+
       go : (t : Bool) → pieces p cs ≡ before p cs ∷ pieces p (behind p cs)
-        → cond t ([] ∷ pieces p cs) (onto b (pieces p cs))
-        ≡ take (cond t 0 (suc (reach p cs))) (b ∷ cs) ∷ pieces p (drop (suc (cond t 0 (suc (reach p cs)))) (b ∷ cs))
+          → cond t ([] ∷ pieces p cs) (onto b (pieces p cs))
+          ≡ take (cond t 0 (suc (reach p cs))) (b ∷ cs) ∷ pieces p (drop (suc (cond t 0 (suc (reach p cs)))) (b ∷ cs))
       go true e = refl
       go false e = ap (onto b) e
 
   -- as the code cuts it: from i to e, and the next one from s on
   pub pieces-at : (text : List ℕ) (i e s : ℕ) → i < length text → e ≡ i + reach p (drop i text) → s ≡ min (e + 1) (length text)
-    → pieces p (drop i text) ≡ take (e - i) (drop i text) ∷ pieces p (drop s text)
+      → pieces p (drop i text) ≡ take (e - i) (drop i text) ∷ pieces p (drop s text)
   pieces-at text i e s h f g =
       let r = reach p (drop i text) in
       let l = length-drop i text in
       let k : r ≡ e - i = omega arith in
       let m : suc e ≡ i + suc r = omega arith in
       let d : drop (suc r) (drop i text) ≡ drop s text =
-          drop-drop (suc r) i text ∙ ap (λ (j : ℕ). drop j text) (sym m) ∙ sym (drop-past text e s g) in
+      drop-drop (suc r) i text ∙ ap (λ (j : ℕ). drop j text) (sym m) ∙ sym (drop-past text e s g) in
       pieces-first (drop i text) (omega arith)
       ∙ ap (λ (j : ℕ). take j (drop i text) ∷ pieces p (drop (suc r) (drop i text))) k
       ∙ ap (λ (l : List ℕ). take (e - i) (drop i text) ∷ pieces p l) d

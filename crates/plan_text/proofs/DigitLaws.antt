@@ -1,12 +1,12 @@
 -- Laws of numbers in decimal digits.
-use mathlib.Core.Path.{_≡_, refl, sym, ap, _∙_, subst}
+use mathlib.Core.Path.{_≡_, refl, sym}
 use mathlib.Core.Bool.{Bool, true, false, cond, _&&_}
 use mathlib.Core.List.{List, [], _∷_, _++_}
 use mathlib.Core.Option.{Option, none, some, Option·some-injective, Option·none-ne-some}
 use Prim.Native.Nat.{ℕ, zero, suc, _+_, _-_, _*_, _^_, _≤_, _<_}
 use native.Mathlib.Nat.{pow-suc, mul-le-mul-left, mul-le-mul-right}
 use native.Mathlib.Omega.{arith}
-use lib.Dec.{T, leb}
+use lib.Dec.{leb}
 use native.Mathlib.Numerals.{add-one}
 use lib.ListN.{length, getD, drop, length-append, drop-of-length-le}
 use lib.Seq.{drop-cons}
@@ -30,7 +30,7 @@ module _ (most n : ℕ) where
   unfolding from
   from-digit b bs h =
       let e : n * 10 ^ suc (length bs) + ((b - 48) * 10 ^ length bs + numeral bs) ≡ (n * 10 + (b - 48)) * 10 ^ length bs + numeral bs =
-          rw (pow-suc 10 (length bs)) (omega arith) in
+      rw (pow-suc 10 (length bs)) (omega arith) in
       rw (h, e)
 
   pub from-other : (b : ℕ) (bs : List ℕ) → digit b ≡ false → from most n (b ∷ bs) ≡ none
@@ -63,7 +63,7 @@ digit-range b h = let p = both (leb 48 b) (leb b 57) h in (leb-true 48 b (p .0),
 -- the same at a place of a text
 module _ (most n : ℕ) (text : List ℕ) (i : ℕ) where
   pub next-digit : i < length text → digit (getD text i 0) ≡ true
-    → from most n (drop i text) ≡ from most (n * 10 + (getD text i 0 - 48)) (drop (i + 1) text)
+      → from most n (drop i text) ≡ from most (n * 10 + (getD text i 0 - 48)) (drop (i + 1) text)
   next-digit h e = rw (add-one i, drop-cons text i 0 h) (from-digit most n (getD text i 0) (drop (suc i) text) e)
 
   pub next-other : i < length text → digit (getD text i 0) ≡ false → from most n (drop i text) ≡ none
@@ -131,7 +131,7 @@ module _ (most less : ℕ) (bs : List ℕ) where
   unread-less h = go (digits bs) (leb (numeral bs) most) refl
     where
       go : (d l : Bool) → leb (numeral bs) most ≡ l → cond (d && l) (some (numeral bs)) none ≡ none
-        → cond (d && leb (numeral bs) less) (some (numeral bs)) none ≡ none
+          → cond (d && leb (numeral bs) less) (some (numeral bs)) none ≡ none
       go true true g e = absurd (Option·none-ne-some _ (sym e))
       go true false g e = let z = leb-false (numeral bs) most g in rw (lt-leb (numeral bs) less (omega arith))
       go false l g e = refl

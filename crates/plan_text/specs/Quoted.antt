@@ -1,6 +1,6 @@
 -- The bytes of a quoted text.
 use Prim.Native.Nat.{ℕ, zero, suc}
-use Prim.Native.Char.{Char, code}
+use Prim.Native.Char.{code}
 use Prim.Native.String.{String, len, charAt}
 use mathlib.Core.List.{List, [], _∷_}
 

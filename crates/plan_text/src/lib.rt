@@ -41,14 +41,14 @@ pub fn past(place: usize, end: usize) -> usize
 }
 
 // Whether a byte is a digit.
-pub fn is_digit(byte: u8) -> bool
+fn is_digit(byte: u8) -> bool
     ensures { λ r. ⌜ r ≡ digit byte ⌝ }
 {
     (48 <= byte) & (byte <= 57)
 }
 
 // The largest number that `read_digits` takes: fifteen nines, which binary64 holds exactly.
-pub const MOST: u64 = 999_999_999_999_999;
+const MOST: u64 = 999_999_999_999_999;
 
 // The number of a text of digits; none where a byte is not a digit or the number is more than `MOST`.
 pub fn read_digits(text: &[u8]) -> OptionU64

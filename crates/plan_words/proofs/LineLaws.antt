@@ -1,8 +1,8 @@
 -- The words of a line, met one by one.
 use mathlib.Core.Path.{_≡_, refl, sym, ap, _∙_}
 use mathlib.Core.Bool.{Bool, true, false}
-use mathlib.Core.List.{List, [], _∷_}
-use Prim.Native.Nat.{ℕ, suc, _+_, _-_, _≤_, _<_, min}
+use mathlib.Core.List.{List, _∷_}
+use Prim.Native.Nat.{ℕ, _+_, _-_, _≤_, _<_, min}
 use native.Mathlib.Omega.{arith}
 use lib.Dec.{ltb}
 use lib.ListN.{length, take, drop, length-drop, drop-of-length-le}
@@ -12,7 +12,6 @@ use Rattle.plan_text.specs.Bytes.{reach, pieces}
 use Rattle.plan_text.proofs.ByteLaws.{pieces-at, found-most}
 use Rattle.plan_words.specs.declared.Setting.{Setting}
 use Rattle.plan_words.specs.declared.Settings.{Settings}
-use Rattle.plan_words.specs.declared.Words.{Words}
 use Rattle.plan_words.specs.declared.WordsAnswer.the-variants as Answer
 use Rattle.plan_words.specs.Word.{meaning}
 use Rattle.plan_words.specs.Line.{Word, placed, isEnd, keyOf, isGiven, withSetting, refused, finished, settled, wordsOf}
@@ -76,8 +75,8 @@ at-last s text i h = rw (drop-of-length-le text h)
 -- ---- as the code meets a word: what it means, and the number of its key
 
 module _ (text : List ℕ) (st : Settings) (i e : ℕ) (h : i < length text) (f : e ≡ i + reach isEnd (drop i text))
-  (left : wordsOf text ≡ settled st (wordsFrom i text)) (m : Setting) (means : m ≡ meaning (take (e - i) (drop i text)))
-  (k : ℕ) (is : k ≡ keyOf m) where
+    (left : wordsOf text ≡ settled st (wordsFrom i text)) (m : Setting) (means : m ≡ meaning (take (e - i) (drop i text)))
+    (k : ℕ) (is : k ≡ keyOf m) where
   word : Word
   word = record { at = i; end = e; text = take (e - i) (drop i text) }
 
@@ -101,7 +100,7 @@ module _ (text : List ℕ) (st : Settings) (i e : ℕ) (h : i < length text) (f 
         met s refl ∙ twice st word (wordsFrom s text) (λ z. known (key ∙ z)) (ap (isGiven st) (sym key) ∙ q)
 
     pub at-once : (s : ℕ) (next : Settings) → s ≡ min (e + 1) (length text) → next ≡ withSetting st m → isGiven st k ≡ false
-      → wordsOf text ≡ settled next (wordsFrom s text)
+        → wordsOf text ≡ settled next (wordsFrom s text)
     unfolding word
     at-once s next g n q =
         met s g

@@ -41,7 +41,7 @@ headerOf l r f p m e c = record {
   padding = p;
   mode = m;
   «mode_extension» = e;
-  «protection_bit» = c
+  «protection_bit» = c;
 }
 
 -- the header with it; a CRC is carried where the protection bit is false
@@ -80,7 +80,7 @@ unfoldable pub withSetting : Settings → Setting → Settings
 withSetting s m = record {
   header = headerWith (s .header) m;
   banc = bancWith (s .banc) m;
-  given = set (s .given) (keyOf m) true
+  given = set (s .given) (keyOf m) true;
 }
 
 -- what holds where no word sets anything: stereo, a bound of 4, no CRC
@@ -88,7 +88,7 @@ unfoldable pub defaults : Settings
 defaults = record {
   header = headerOf false 0 0 false Stereo Bound4 true;
   banc = 0;
-  given = replicate 8 false
+  given = replicate 8 false;
 }
 
 -- ---- the words of a line

@@ -1,14 +1,12 @@
 -- The words of a command line, and what each of them sets.
 use Prim.Native.Nat.{ℕ}
 use Prim.Native.String.{String}
-use mathlib.Core.Bool.{Bool, true, false, cond}
+use mathlib.Core.Bool.{true, false, cond}
 use mathlib.Core.List.{List, [], _∷_, _++_}
 use mathlib.Core.Option.{Option, none, some}
 use lib.Dec.{eqb}
 use lib.ListN.{length, take, drop}
-use Rattle.header.specs.declared.Mode.{Mode}
 use Rattle.header.specs.declared.Mode.the-variants.{Stereo, JointStereo, DualChannel, SingleChannel}
-use Rattle.header.specs.declared.ModeExtension.{ModeExtension}
 use Rattle.header.specs.declared.ModeExtension.the-variants.{Bound4, Bound8, Bound12, Bound16}
 use Rattle.plan_text.specs.Bytes.{same}
 use Rattle.plan_text.specs.Digits.{numberTo}

@@ -10,7 +10,7 @@ use header::ModeExtension;
 use plan_text::OptionU64;
 
 // What a word sets.
-pub enum Setting {
+enum Setting {
     // fs=
     SampleRate(u32),
     // rate=
@@ -32,7 +32,7 @@ pub enum Setting {
 }
 
 // What a word means.
-pub fn read_word(word: &[u8]) -> Setting
+fn read_word(word: &[u8]) -> Setting
     ensures { λ r. ⌜ r ≡ meaning (now (word .entry)) ⌝ }
 {
     if plan_text::same(word, b"mode=stereo") {
@@ -114,7 +114,7 @@ fn number_word(word: &[u8]) -> Setting
 }
 
 // A number of 32 bits that may be missing.
-pub enum OptionU32 {
+enum OptionU32 {
     Some(u32),
     None,
 }
@@ -134,7 +134,7 @@ fn value_after(word: &[u8], key: &[u8]) -> OptionU32
 }
 
 // A number of 32 bits in decimal digits.
-pub fn read_number(text: &[u8]) -> OptionU32
+fn read_number(text: &[u8]) -> OptionU32
     ensures { λ r. ⌜ numberIn r ≡ number (now (text .entry)) ⌝ }
 {
     if text.len() == 0 {

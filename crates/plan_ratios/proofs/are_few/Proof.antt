@@ -6,8 +6,6 @@ use Rattle.plan_ratios.specs.Ratio.{few}
 use Rattle.plan_ratios.proofs.DecimalLaws.{many}
 use Rattle.plan_ratios.proofs.are_few.Statement.{statement}
 use Rattle.plan_ratios.proofs.are_few.Tie as tie
-use Rattle.plan_ratios.proofs.are_few.Reads as reads
-use Rattle.plan_ratios.proofs.are_few.Lts as lts
 
 returns : tie.Need-returns
 returns c = let h = c .if1 .taken in sym (many _ (omega arith))

@@ -1,5 +1,5 @@
 -- `plan_ratios::count_lines` meets its contract.
-use mathlib.Core.Path.{_≡_, refl, sym, ap, _∙_}
+use mathlib.Core.Path.{_≡_, ap}
 use mathlib.Core.List.{List}
 use Prim.Native.Nat.{ℕ, _+_, _-_, _≤_}
 use borrow.Author.Needs.{needs}
@@ -10,10 +10,6 @@ use Rattle.plan_text.proofs.ByteLaws.{pieces-at}
 use Rattle.plan_ratios.specs.Tokens.{endsLine}
 use Rattle.plan_ratios.proofs.count_lines.Statement.{statement}
 use Rattle.plan_ratios.proofs.count_lines.Tie as tie
-use Rattle.plan_ratios.proofs.count_lines.Reads as reads
-use Rattle.plan_ratios.proofs.count_lines.Lts as lts
-use Rattle.plan_text.proofs.find_byte.Reads as find-byte-reads
-use Rattle.plan_text.proofs.past.Reads as past-reads
 
 abbrev Inv-loop : tie.InvT-loop
 Inv-loop text lines₀ at₀ lines at =
@@ -43,8 +39,8 @@ loop-again c =
     let e = c .before .find-byte .ensures in
     let p = c .past .ensures in
     let s =
-        pieces-at endsLine (l .before .before .args .text .now) (l .loop .at) (c .before .find-byte .result) (c .past .result)
-        (c .before .before .loop-test .taken) e p in
+    pieces-at endsLine (l .before .before .args .text .now) (l .loop .at) (c .before .find-byte .result) (c .past .result)
+    (c .before .before .loop-test .taken) e p in
     (omega (arith, c .before .before .loop-test .taken), omega (arith, l .loop .inv .1, ap length s))
 
 returns : tie.Need-returns Inv-loop μ-loop

@@ -4,8 +4,6 @@ use borrow.Author.Tests.{eq-eqb, ne-eqb}
 use borrow.Author.Needs.{needs}
 use Rattle.plan_ratios.proofs.feeds_of.Statement.{statement}
 use Rattle.plan_ratios.proofs.feeds_of.Tie as tie
-use Rattle.plan_ratios.proofs.feeds_of.Reads as reads
-use Rattle.plan_ratios.proofs.feeds_of.Lts as lts
 
 returns : tie.Need-returns
 returns c = rw (eq-eqb _ _ (c .if1 .taken)) (refl, search needs)

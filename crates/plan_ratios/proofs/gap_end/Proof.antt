@@ -3,9 +3,6 @@ use Rattle.plan_ratios.proofs.TokenLaws.{gap-hash, gap-other}
 use borrow.Author.Needs.{needs}
 use Rattle.plan_ratios.proofs.gap_end.Statement.{statement}
 use Rattle.plan_ratios.proofs.gap_end.Tie as tie
-use Rattle.plan_ratios.proofs.gap_end.Reads as reads
-use Rattle.plan_ratios.proofs.gap_end.Lts as lts
-use Rattle.plan_text.proofs.find_byte.Reads as find-byte-reads
 
 add-next : tie.Need-add-next
 add-next c = search needs

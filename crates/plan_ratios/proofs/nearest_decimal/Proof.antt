@@ -4,10 +4,6 @@ use native.Mathlib.Omega.{arith}
 use Rattle.plan_ratios.proofs.DecimalLaws.{one-division}
 use Rattle.plan_ratios.proofs.nearest_decimal.Statement.{statement}
 use Rattle.plan_ratios.proofs.nearest_decimal.Tie as tie
-use Rattle.plan_ratios.proofs.nearest_decimal.Reads as reads
-use Rattle.plan_ratios.proofs.nearest_decimal.Lts as lts
-use Rattle.plan_ratios.proofs.power_of_ten.Reads as power-of-ten-reads
-use Rattle.std.proofs.num.nearest_u64_to_f64.Reads as nearest-u64-to-f64-reads
 
 power-of-ten-requires : tie.Need-power-of-ten-requires
 power-of-ten-requires c κs = search needs

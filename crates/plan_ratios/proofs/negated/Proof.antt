@@ -2,8 +2,6 @@
 use borrow.Author.Needs.{needs}
 use Rattle.plan_ratios.proofs.negated.Statement.{statement}
 use Rattle.plan_ratios.proofs.negated.Tie as tie
-use Rattle.plan_ratios.proofs.negated.Reads as reads
-use Rattle.plan_ratios.proofs.negated.Lts as lts
 
 enum-known-size : tie.Need-enum-known-size
 enum-known-size c = search needs

@@ -2,11 +2,8 @@
 use mathlib.Core.Path.{refl}
 use lib.Ieee.{ofBits}
 use Rattle.plan_ratios.specs.Ratios.{empty}
-use borrow.Author.Needs.{needs}
 use Rattle.plan_ratios.proofs.no_ratios.Statement.{statement}
 use Rattle.plan_ratios.proofs.no_ratios.Tie as tie
-use Rattle.plan_ratios.proofs.no_ratios.Reads as reads
-use Rattle.plan_ratios.proofs.no_ratios.Lts as lts
 
 returns : tie.Need-returns
 unfolding empty ofBits

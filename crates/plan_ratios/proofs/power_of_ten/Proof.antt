@@ -8,8 +8,6 @@ use native.Mathlib.Omega.{arith}
 use Rattle.plan_ratios.proofs.DecimalLaws.{tens, power-is}
 use Rattle.plan_ratios.proofs.power_of_ten.Statement.{statement}
 use Rattle.plan_ratios.proofs.power_of_ten.Tie as tie
-use Rattle.plan_ratios.proofs.power_of_ten.Reads as reads
-use Rattle.plan_ratios.proofs.power_of_ten.Lts as lts
 
 abbrev Inv-loop : tie.InvT-loop
 Inv-loop n power₀ i₀ power i = (i ≤ n) × (power ≡ 10 ^ i)

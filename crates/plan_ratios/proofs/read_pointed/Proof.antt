@@ -1,8 +1,8 @@
 -- `plan_ratios::read_pointed` meets its contract.
-use mathlib.Core.Path.{_≡_, refl, sym, ap, _∙_}
-use mathlib.Core.Bool.{true, false, _&&_}
-use mathlib.Core.Option.{none, some}
-use Prim.Native.Nat.{ℕ, _+_}
+use mathlib.Core.Path.{_≡_, sym, ap, _∙_}
+use mathlib.Core.Bool.{true}
+use mathlib.Core.Option.{some}
+use Prim.Native.Nat.{_+_}
 use borrow.Author.Needs.{needs}
 use lib.ListN.{length}
 use Rattle.plan_text.specs.Digits.{optionOf}
@@ -10,11 +10,6 @@ use Rattle.plan_ratios.specs.Ratio.{few}
 use Rattle.plan_ratios.proofs.DecimalLaws.{pointed-unfew, front-unread, back-unread, parts-less, parts-read}
 use Rattle.plan_ratios.proofs.read_pointed.Statement.{statement}
 use Rattle.plan_ratios.proofs.read_pointed.Tie as tie
-use Rattle.plan_ratios.proofs.read_pointed.Reads as reads
-use Rattle.plan_ratios.proofs.read_pointed.Lts as lts
-use Rattle.plan_ratios.proofs.are_few.Reads as are-few-reads
-use Rattle.plan_ratios.proofs.nearest_decimal.Reads as nearest-decimal-reads
-use Rattle.plan_text.proofs.read_digits.Reads as read-digits-reads
 
 -- the counts are right
 counted : (c : tie.Then1) → let a = c .before .before .before .before .args in few (length (a .front .now) + length (a .back .now)) ≡ true

@@ -5,10 +5,6 @@ use Rattle.plan_ratios.specs.Ratio.{readOf}
 use Rattle.plan_ratios.proofs.RatioLaws.{is-word, is-number}
 use Rattle.plan_ratios.proofs.read_ratio.Statement.{statement}
 use Rattle.plan_ratios.proofs.read_ratio.Tie as tie
-use Rattle.plan_ratios.proofs.read_ratio.Reads as reads
-use Rattle.plan_ratios.proofs.read_ratio.Lts as lts
-use Rattle.plan_ratios.proofs.read_signed.Reads as read-signed-reads
-use Rattle.plan_ratios.proofs.read_word.Reads as read-word-reads
 
 read-word-requires : tie.Need-read-word-requires
 read-word-requires c κs = search needs

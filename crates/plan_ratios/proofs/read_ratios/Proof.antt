@@ -1,6 +1,6 @@
 -- `plan_ratios::read_ratios` meets its contract.
-use mathlib.Core.Path.{_≡_, refl, sym, ap, _∙_}
-use Prim.Native.Nat.{ℕ, _+_, _-_, _≤_, _<_}
+use mathlib.Core.Path.{refl, sym, ap, _∙_}
+use Prim.Native.Nat.{ℕ, _-_, _≤_, _<_}
 use borrow.Author.Needs.{needs}
 use native.Mathlib.Omega.{arith}
 use lib.ListN.{length}
@@ -10,15 +10,6 @@ use Rattle.plan_ratios.specs.Ratios.{refused}
 use Rattle.plan_ratios.proofs.WalkLaws.{Walked, at-first, forward, within, at-many, at-unread, at-read, at-few, at-enough}
 use Rattle.plan_ratios.proofs.read_ratios.Statement.{statement}
 use Rattle.plan_ratios.proofs.read_ratios.Tie as tie
-use Rattle.plan_ratios.proofs.read_ratios.Reads as reads
-use Rattle.plan_ratios.proofs.read_ratios.Lts as lts
-use Rattle.plan_ratios.proofs.count_lines.Reads as count-lines-reads
-use Rattle.plan_ratios.proofs.no_ratios.Reads as no-ratios-reads
-use Rattle.plan_ratios.proofs.read_ratio.Reads as read-ratio-reads
-use Rattle.plan_ratios.proofs.refused.Reads as refused-reads
-use Rattle.plan_ratios.proofs.skip_gap.Reads as skip-gap-reads
-use Rattle.plan_ratios.proofs.slots_of.Reads as slots-of-reads
-use Rattle.plan_ratios.proofs.token_end.Reads as token-end-reads
 
 abbrev Inv-loop : tie.InvT-loop
 Inv-loop text channels slots ratios₀ count₀ at₀ feeds₀ ratios count at feeds = Walked text channels slots ratios count at feeds
@@ -31,7 +22,7 @@ few c = c .before .before .before .slots-of .ensures .1
 
 -- a token goes forward and ends within the text
 ahead : (c : tie.After-token-end Inv-loop μ-loop) → let l = c .before .before .before in
-  (l .loop .at < c .token-end .result) × (c .token-end .result ≤ length (l .before .before .before .before .before .args .text .now))
+    (l .loop .at < c .token-end .result) × (c .token-end .result ≤ length (l .before .before .before .before .before .args .text .now))
 ahead c =
     let l = c .before .before .before in
     let h = c .before .before .loop-test .taken in

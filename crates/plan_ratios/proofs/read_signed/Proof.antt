@@ -6,10 +6,6 @@ use lib.Ieee.{neg}
 use Rattle.plan_ratios.proofs.RatioLaws.{no-sign, minus-sign, plus-sign, other-sign}
 use Rattle.plan_ratios.proofs.read_signed.Statement.{statement}
 use Rattle.plan_ratios.proofs.read_signed.Tie as tie
-use Rattle.plan_ratios.proofs.read_signed.Reads as reads
-use Rattle.plan_ratios.proofs.read_signed.Lts as lts
-use Rattle.plan_ratios.proofs.negated.Reads as negated-reads
-use Rattle.plan_ratios.proofs.read_unsigned.Reads as read-unsigned-reads
 
 read-unsigned-requires : tie.Need-read-unsigned-requires
 read-unsigned-requires c κs = search needs

@@ -1,5 +1,5 @@
 -- `plan_ratios::read_unsigned` meets its contract.
-use mathlib.Core.Path.{_≡_, refl, sym, ap, _∙_}
+use mathlib.Core.Path.{sym, _∙_}
 use borrow.Author.Needs.{needs}
 use native.Mathlib.Omega.{arith}
 use lib.Seq.{length-take-le}
@@ -8,10 +8,6 @@ use Rattle.plan_text.proofs.ByteLaws.{found-most}
 use Rattle.plan_ratios.proofs.RatioLaws.{two-parts}
 use Rattle.plan_ratios.proofs.read_unsigned.Statement.{statement}
 use Rattle.plan_ratios.proofs.read_unsigned.Tie as tie
-use Rattle.plan_ratios.proofs.read_unsigned.Reads as reads
-use Rattle.plan_ratios.proofs.read_unsigned.Lts as lts
-use Rattle.plan_ratios.proofs.read_pointed.Reads as read-pointed-reads
-use Rattle.plan_text.proofs.find_byte.Reads as find-byte-reads
 
 find-byte-requires : tie.Need-find-byte-requires
 find-byte-requires c κs = search needs

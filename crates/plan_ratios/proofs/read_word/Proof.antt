@@ -1,14 +1,11 @@
 -- `plan_ratios::read_word` meets its contract.
-use mathlib.Core.Path.{_≡_, refl, sym, _∙_}
+use mathlib.Core.Path.{sym, _∙_}
 use borrow.Author.Needs.{needs}
 use lib.Ieee.{div, neg, ofBits}
 use Rattle.plan_text.specs.Quoted.{bytes, codes}
 use Rattle.plan_ratios.specs.Ratio.{wordValue}
 use Rattle.plan_ratios.proofs.read_word.Statement.{statement}
 use Rattle.plan_ratios.proofs.read_word.Tie as tie
-use Rattle.plan_ratios.proofs.read_word.Reads as reads
-use Rattle.plan_ratios.proofs.read_word.Lts as lts
-use Rattle.plan_text.proofs.same.Reads as same-reads
 
 slice-aggregate-same : tie.Need-slice-aggregate-same
 slice-aggregate-same c = search needs
@@ -43,20 +40,22 @@ unfolding wordValue bytes codes div ofBits
 returns-3 c =
     let f = c .before .before .before in
     let e = f .before .before .before in
-    rw
-    (sym (e .before .same .ensures) ∙ e .if1 .left,
-    sym (f .before .same2 .ensures) ∙ f .if2 .left,
-    sym (c .before .same3 .ensures) ∙ c .if3 .taken)
+    rw (
+      sym (e .before .same .ensures) ∙ e .if1 .left,
+      sym (f .before .same2 .ensures) ∙ f .if2 .left,
+      sym (c .before .same3 .ensures) ∙ c .if3 .taken,
+    )
 
 returns-4 : tie.Need-returns-4
 unfolding wordValue bytes codes
 returns-4 c =
     let f = c .before .before .before in
     let e = f .before .before .before in
-    rw
-    (sym (e .before .same .ensures) ∙ e .if1 .left,
-    sym (f .before .same2 .ensures) ∙ f .if2 .left,
-    sym (c .before .same3 .ensures) ∙ c .if3 .left)
+    rw (
+      sym (e .before .same .ensures) ∙ e .if1 .left,
+      sym (f .before .same2 .ensures) ∙ f .if2 .left,
+      sym (c .before .same3 .ensures) ∙ c .if3 .left,
+    )
 
 pub read-word-spec : {M : Type 1} → statement M
 read-word-spec =

@@ -3,9 +3,6 @@ use Rattle.plan_ratios.specs.Ratios.{refused}
 use borrow.Author.Needs.{needs}
 use Rattle.plan_ratios.proofs.refused.Statement.{statement}
 use Rattle.plan_ratios.proofs.refused.Tie as tie
-use Rattle.plan_ratios.proofs.refused.Reads as reads
-use Rattle.plan_ratios.proofs.refused.Lts as lts
-use Rattle.plan_ratios.proofs.no_ratios.Reads as no-ratios-reads
 
 no-ratios-requires : tie.Need-no-ratios-requires
 no-ratios-requires c κs = search needs

@@ -1,6 +1,6 @@
 -- `plan_ratios::skip_gap` meets its contract.
-use mathlib.Core.Path.{_≡_, refl, sym, ap, _∙_}
-use Prim.Native.Nat.{ℕ, _+_, _-_, _≤_}
+use mathlib.Core.Path.{_≡_, refl, sym, _∙_}
+use Prim.Native.Nat.{_+_, _-_, _≤_}
 use borrow.Author.Needs.{needs}
 use native.Mathlib.Omega.{arith}
 use lib.ListN.{length, drop}
@@ -8,11 +8,6 @@ use Rattle.plan_ratios.specs.Tokens.{tokensFrom}
 use Rattle.plan_ratios.proofs.TokenLaws.{gap-at}
 use Rattle.plan_ratios.proofs.skip_gap.Statement.{statement}
 use Rattle.plan_ratios.proofs.skip_gap.Tie as tie
-use Rattle.plan_ratios.proofs.skip_gap.Reads as reads
-use Rattle.plan_ratios.proofs.skip_gap.Lts as lts
-use Rattle.plan_ratios.proofs.feeds_of.Reads as feeds-of-reads
-use Rattle.plan_ratios.proofs.gap_end.Reads as gap-end-reads
-use Rattle.plan_ratios.proofs.is_end.Reads as is-end-reads
 
 abbrev Inv-loop : tie.InvT-loop
 Inv-loop text from passed at₀ feeds₀ at feeds =
@@ -53,7 +48,7 @@ loop-again c =
     let l = e .before .before .before in
     let i = l .loop .inv in
     let k =
-        gap-at _ _ (e .before .before .loop-test .taken) (l .loop .feeds) _ _ (sym (e .is-end .ensures) ∙ c .before .before .if1 .taken) (f .0) (g .0) in
+    gap-at _ _ (e .before .before .loop-test .taken) (l .loop .feeds) _ _ (sym (e .is-end .ensures) ∙ c .before .before .if1 .taken) (f .0) (g .0) in
     (omega (arith, i, g .1), g .2, omega (arith, i, f, g .1), i .3 ∙ k)
 
 returns : tie.Need-returns Inv-loop μ-loop
@@ -63,7 +58,7 @@ returns c =
     record {
       kept = i .3;
       forward = i .0;
-      reached = record { within = i .1; counted = i .2; starts = λ h. sym (c .before .is-end .ensures) ∙ c .if1 .left }
+      reached = record { within = i .1; counted = i .2; starts = λ h. sym (c .before .is-end .ensures) ∙ c .if1 .left };
     }
 
 returns-2 : tie.Need-returns-2 Inv-loop μ-loop
@@ -72,7 +67,7 @@ returns-2 c =
     record {
       kept = i .3;
       forward = i .0;
-      reached = record { within = i .1; counted = i .2; starts = λ h. absurd (let g = c .loop-test .left in omega arith) }
+      reached = record { within = i .1; counted = i .2; starts = λ h. absurd (let g = c .loop-test .left in omega arith) };
     }
 
 pub skip-gap-spec : {M : Type 1} → statement M

@@ -9,9 +9,6 @@ use Rattle.plan_text.proofs.ByteLaws.{reach-at, reach-past, reach-end}
 use Rattle.plan_ratios.specs.Tokens.{isEnd}
 use Rattle.plan_ratios.proofs.token_end.Statement.{statement}
 use Rattle.plan_ratios.proofs.token_end.Tie as tie
-use Rattle.plan_ratios.proofs.token_end.Reads as reads
-use Rattle.plan_ratios.proofs.token_end.Lts as lts
-use Rattle.plan_ratios.proofs.is_end.Reads as is-end-reads
 
 abbrev Inv-loop : tie.InvT-loop
 Inv-loop text from i₀ i = from + reach isEnd (drop from text) ≡ i + reach isEnd (drop i text)
@@ -32,10 +29,11 @@ returns : tie.Need-returns Inv-loop μ-loop
 returns c =
     let l = c .before .before .before .before in
     let t = l .before .before .args .text .now in
-    omega
-    (arith,
-    l .loop .inv,
-    reach-at isEnd t (l .loop .i) (c .before .before .before .loop-test .taken) (sym (c .before .is-end .ensures) ∙ c .if1 .taken))
+    omega (
+      arith,
+      l .loop .inv,
+      reach-at isEnd t (l .loop .i) (c .before .before .before .loop-test .taken) (sym (c .before .is-end .ensures) ∙ c .if1 .taken),
+    )
 
 add-i : tie.Need-add-i Inv-loop μ-loop
 add-i c = search needs

@@ -1,7 +1,7 @@
 -- `plan_text::find_byte` meets its contract. The loop keeps the place that is looked for.
-use mathlib.Core.Path.{_≡_, refl, sym, _∙_}
+use mathlib.Core.Path.{_≡_, refl, _∙_}
 use mathlib.Core.Bool.{Bool}
-use Prim.Native.Nat.{ℕ, _+_, _-_, _≤_}
+use Prim.Native.Nat.{ℕ, _+_, _-_}
 use borrow.Author.Needs.{needs}
 use native.Mathlib.Omega.{arith}
 use lib.Dec.{eqb}
@@ -11,8 +11,6 @@ use Rattle.plan_text.specs.Bytes.{reach}
 use Rattle.plan_text.proofs.ByteLaws.{reach-at, reach-past, reach-end}
 use Rattle.plan_text.proofs.find_byte.Statement.{statement}
 use Rattle.plan_text.proofs.find_byte.Tie as tie
-use Rattle.plan_text.proofs.find_byte.Reads as reads
-use Rattle.plan_text.proofs.find_byte.Lts as lts
 
 abbrev is : ℕ → ℕ → Bool
 is byte b = eqb b byte
@@ -33,10 +31,11 @@ returns : tie.Need-returns Inv-loop μ-loop
 returns c =
     let l = c .before .before .before in
     let a = l .before .args in
-    omega
-    (arith,
-    l .loop .inv,
-    reach-at (is (a .byte)) (a .text .now) (l .loop .i) (c .before .before .loop-test .taken) (eq-eqb _ _ (c .if1 .taken)))
+    omega (
+      arith,
+      l .loop .inv,
+      reach-at (is (a .byte)) (a .text .now) (l .loop .i) (c .before .before .loop-test .taken) (eq-eqb _ _ (c .if1 .taken)),
+    )
 
 add-i : tie.Need-add-i Inv-loop μ-loop
 add-i c = search needs

@@ -1,19 +1,12 @@
 -- `plan_text::read_digits` meets its contract. The loop keeps the answer: the digits passed are a number, and those to come go on from it.
-use mathlib.Core.Path.{_≡_, refl, sym, ap, _∙_, subst}
-use mathlib.Core.Bool.{Bool, true}
-use mathlib.Core.Option.{Option, none, some}
+use mathlib.Core.Path.{_≡_, sym, _∙_, subst}
 use Prim.Native.Nat.{ℕ, _+_, _-_, _*_, _≤_, _<_}
 use borrow.Author.Needs.{needs}
-use native.Mathlib.Omega.{arith}
-use native.Mathlib.Numerals.{add-one}
-use lib.ListN.{length, drop, drop-of-length-le}
-use lib.Seq.{drop-cons}
-use Rattle.plan_text.specs.Digits.{digit, numberTo}
+use lib.ListN.{length, drop}
+use Rattle.plan_text.specs.Digits.{numberTo}
 use Rattle.plan_text.proofs.DigitLaws.{from, from-start, from-over, next-digit, next-other, at-end, digit-range}
 use Rattle.plan_text.proofs.read_digits.Statement.{statement}
 use Rattle.plan_text.proofs.read_digits.Tie as tie
-use Rattle.plan_text.proofs.read_digits.Reads as reads
-use Rattle.plan_text.proofs.read_digits.Lts as lts
 
 abbrev most : ℕ
 most = 999_999_999_999_999
@@ -67,11 +60,12 @@ loop-less c = search needs
 loop-again : tie.Need-loop-again Inv-loop μ-loop
 loop-again c =
     let t = c .before .before in
-    let l = t .before .before .before .before in
-    (search needs,
-    rw (c .before .worth .ensures .0)
-    (l .loop .inv .1
-    ∙ next-digit most _ _ (l .loop .i) (t .before .before .before .loop-test .taken) (sym (t .before .is-digit .ensures) ∙ t .if1 .taken)))
+    let l = t .before .before .before .before in (
+      search needs,
+      rw (c .before .worth .ensures .0)
+          (l .loop .inv .1
+          ∙ next-digit most _ _ (l .loop .i) (t .before .before .before .loop-test .taken) (sym (t .before .is-digit .ensures) ∙ t .if1 .taken)),
+    )
 
 returns-3 : tie.Need-returns-3 Inv-loop μ-loop
 returns-3 c = sym (c .before .loop .inv .1 ∙ at-end most _ _ (c .before .loop .i) (c .loop-test .left) (c .before .loop .inv .0))

@@ -1,11 +1,8 @@
 -- `plan_words::defaults` meets its contract.
-use mathlib.Core.Path.{_≡_, refl, sym, ap, _∙_}
+use mathlib.Core.Path.{refl}
 use Rattle.plan_words.specs.Line.{defaults}
-use borrow.Author.Needs.{needs}
 use Rattle.plan_words.proofs.defaults.Statement.{statement}
 use Rattle.plan_words.proofs.defaults.Tie as tie
-use Rattle.plan_words.proofs.defaults.Reads as reads
-use Rattle.plan_words.proofs.defaults.Lts as lts
 
 returns : tie.Need-returns
 unfolding defaults

@@ -1,13 +1,9 @@
 -- `plan_words::finished` meets its contract.
-use mathlib.Core.Path.{_≡_, refl, sym, ap, _∙_}
+use mathlib.Core.Path.{sym, _∙_}
 use Rattle.plan_words.specs.Line.{accepted, finished}
 use borrow.Author.Needs.{needs}
 use Rattle.plan_words.proofs.finished.Statement.{statement}
 use Rattle.plan_words.proofs.finished.Tie as tie
-use Rattle.plan_words.proofs.finished.Reads as reads
-use Rattle.plan_words.proofs.finished.Lts as lts
-use Rattle.plan_words.proofs.is_given.Reads as is-given-reads
-use Rattle.plan_words.proofs.refused.Reads as refused-reads
 
 is-given-requires : tie.Need-is-given-requires
 is-given-requires c κs = search needs
@@ -23,13 +19,13 @@ refused-requires-2 c κs = search needs
 
 returns : tie.Need-returns
 unfolding finished accepted
-returns c = 
+returns c =
     let s = c .before .before .before in
     rw (sym (s .before .is-given .ensures) ∙ s .if1 .taken, sym (c .before .before .is-given2 .ensures) ∙ c .before .if2 .taken)
 
 returns-2 : tie.Need-returns-2
 unfolding finished
-returns-2 c = 
+returns-2 c =
     let s = c .before .before .before in
     rw (sym (s .before .is-given .ensures) ∙ s .if1 .taken, sym (c .before .before .is-given2 .ensures) ∙ c .before .if2 .left)
     (c .refused .ensures)

@@ -1,14 +1,10 @@
 -- `plan_words::flag_word` meets its contract.
-use mathlib.Core.Path.{_≡_, refl, sym, ap, _∙_}
+use mathlib.Core.Path.{sym, _∙_}
 use Rattle.plan_text.specs.Quoted.{bytes, codes}
 use Rattle.plan_words.specs.Word.{flagWords, lookup}
 use borrow.Author.Needs.{needs}
 use Rattle.plan_words.proofs.flag_word.Statement.{statement}
 use Rattle.plan_words.proofs.flag_word.Tie as tie
-use Rattle.plan_words.proofs.flag_word.Reads as reads
-use Rattle.plan_words.proofs.flag_word.Lts as lts
-use Rattle.plan_text.proofs.same.Reads as same-reads
-use Rattle.plan_words.proofs.number_word.Reads as number-word-reads
 
 slice-aggregate-same : tie.Need-slice-aggregate-same
 slice-aggregate-same c = search needs
@@ -18,7 +14,7 @@ same-requires c κs = search needs
 
 returns : tie.Need-returns
 unfolding lookup flagWords bytes codes
-returns c = 
+returns c =
     rw
     (sym (c .before .same .ensures) ∙ c .if1 .taken)
 
@@ -30,11 +26,12 @@ same-requires-2 c κs = search needs
 
 returns-2 : tie.Need-returns-2
 unfolding lookup flagWords bytes codes
-returns-2 c = 
+returns-2 c =
     let e1 = c .before .before .before in
-    rw
-    (sym (e1 .before .same .ensures) ∙ e1 .if1 .left,
-    sym (c .before .same2 .ensures) ∙ c .if2 .taken)
+    rw (
+      sym (e1 .before .same .ensures) ∙ e1 .if1 .left,
+      sym (c .before .same2 .ensures) ∙ c .if2 .taken,
+    )
 
 slice-aggregate-same-3 : tie.Need-slice-aggregate-same-3
 slice-aggregate-same-3 c = search needs
@@ -44,13 +41,14 @@ same-requires-3 c κs = search needs
 
 returns-3 : tie.Need-returns-3
 unfolding lookup flagWords bytes codes
-returns-3 c = 
+returns-3 c =
     let e2 = c .before .before .before in
     let e1 = e2 .before .before .before in
-    rw
-    (sym (e1 .before .same .ensures) ∙ e1 .if1 .left,
-    sym (e2 .before .same2 .ensures) ∙ e2 .if2 .left,
-    sym (c .before .same3 .ensures) ∙ c .if3 .taken)
+    rw (
+      sym (e1 .before .same .ensures) ∙ e1 .if1 .left,
+      sym (e2 .before .same2 .ensures) ∙ e2 .if2 .left,
+      sym (c .before .same3 .ensures) ∙ c .if3 .taken,
+    )
 
 slice-aggregate-same-4 : tie.Need-slice-aggregate-same-4
 slice-aggregate-same-4 c = search needs
@@ -60,15 +58,16 @@ same-requires-4 c κs = search needs
 
 returns-4 : tie.Need-returns-4
 unfolding lookup flagWords bytes codes
-returns-4 c = 
+returns-4 c =
     let e3 = c .before .before .before in
     let e2 = e3 .before .before .before in
     let e1 = e2 .before .before .before in
-    rw
-    (sym (e1 .before .same .ensures) ∙ e1 .if1 .left,
-    sym (e2 .before .same2 .ensures) ∙ e2 .if2 .left,
-    sym (e3 .before .same3 .ensures) ∙ e3 .if3 .left,
-    sym (c .before .same4 .ensures) ∙ c .if4 .taken)
+    rw (
+      sym (e1 .before .same .ensures) ∙ e1 .if1 .left,
+      sym (e2 .before .same2 .ensures) ∙ e2 .if2 .left,
+      sym (e3 .before .same3 .ensures) ∙ e3 .if3 .left,
+      sym (c .before .same4 .ensures) ∙ c .if4 .taken,
+    )
 
 slice-aggregate-same-5 : tie.Need-slice-aggregate-same-5
 slice-aggregate-same-5 c = search needs
@@ -78,17 +77,18 @@ same-requires-5 c κs = search needs
 
 returns-5 : tie.Need-returns-5
 unfolding lookup flagWords bytes codes
-returns-5 c = 
+returns-5 c =
     let e4 = c .before .before .before in
     let e3 = e4 .before .before .before in
     let e2 = e3 .before .before .before in
     let e1 = e2 .before .before .before in
-    rw
-    (sym (e1 .before .same .ensures) ∙ e1 .if1 .left,
-    sym (e2 .before .same2 .ensures) ∙ e2 .if2 .left,
-    sym (e3 .before .same3 .ensures) ∙ e3 .if3 .left,
-    sym (e4 .before .same4 .ensures) ∙ e4 .if4 .left,
-    sym (c .before .same5 .ensures) ∙ c .if5 .taken)
+    rw (
+      sym (e1 .before .same .ensures) ∙ e1 .if1 .left,
+      sym (e2 .before .same2 .ensures) ∙ e2 .if2 .left,
+      sym (e3 .before .same3 .ensures) ∙ e3 .if3 .left,
+      sym (e4 .before .same4 .ensures) ∙ e4 .if4 .left,
+      sym (c .before .same5 .ensures) ∙ c .if5 .taken,
+    )
 
 slice-aggregate-same-6 : tie.Need-slice-aggregate-same-6
 slice-aggregate-same-6 c = search needs
@@ -98,39 +98,41 @@ same-requires-6 c κs = search needs
 
 returns-6 : tie.Need-returns-6
 unfolding lookup flagWords bytes codes
-returns-6 c = 
+returns-6 c =
     let e5 = c .before .before .before in
     let e4 = e5 .before .before .before in
     let e3 = e4 .before .before .before in
     let e2 = e3 .before .before .before in
     let e1 = e2 .before .before .before in
-    rw
-    (sym (e1 .before .same .ensures) ∙ e1 .if1 .left,
-    sym (e2 .before .same2 .ensures) ∙ e2 .if2 .left,
-    sym (e3 .before .same3 .ensures) ∙ e3 .if3 .left,
-    sym (e4 .before .same4 .ensures) ∙ e4 .if4 .left,
-    sym (e5 .before .same5 .ensures) ∙ e5 .if5 .left,
-    sym (c .before .same6 .ensures) ∙ c .if6 .taken)
+    rw (
+      sym (e1 .before .same .ensures) ∙ e1 .if1 .left,
+      sym (e2 .before .same2 .ensures) ∙ e2 .if2 .left,
+      sym (e3 .before .same3 .ensures) ∙ e3 .if3 .left,
+      sym (e4 .before .same4 .ensures) ∙ e4 .if4 .left,
+      sym (e5 .before .same5 .ensures) ∙ e5 .if5 .left,
+      sym (c .before .same6 .ensures) ∙ c .if6 .taken,
+    )
 
 number-word-requires : tie.Need-number-word-requires
 number-word-requires c κs = search needs
 
 returns-7 : tie.Need-returns-7
 unfolding lookup flagWords bytes codes
-returns-7 c = 
+returns-7 c =
     let d = c .before in
     let e5 = d .before .before .before in
     let e4 = e5 .before .before .before in
     let e3 = e4 .before .before .before in
     let e2 = e3 .before .before .before in
     let e1 = e2 .before .before .before in
-    rw
-    (sym (e1 .before .same .ensures) ∙ e1 .if1 .left,
-    sym (e2 .before .same2 .ensures) ∙ e2 .if2 .left,
-    sym (e3 .before .same3 .ensures) ∙ e3 .if3 .left,
-    sym (e4 .before .same4 .ensures) ∙ e4 .if4 .left,
-    sym (e5 .before .same5 .ensures) ∙ e5 .if5 .left,
-    sym (d .before .same6 .ensures) ∙ d .if6 .left)
+    rw (
+      sym (e1 .before .same .ensures) ∙ e1 .if1 .left,
+      sym (e2 .before .same2 .ensures) ∙ e2 .if2 .left,
+      sym (e3 .before .same3 .ensures) ∙ e3 .if3 .left,
+      sym (e4 .before .same4 .ensures) ∙ e4 .if4 .left,
+      sym (e5 .before .same5 .ensures) ∙ e5 .if5 .left,
+      sym (d .before .same6 .ensures) ∙ d .if6 .left,
+    )
     (c .number-word .ensures)
 
 pub flag-word-spec : {M : Type 1} → statement M

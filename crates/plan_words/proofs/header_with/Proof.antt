@@ -1,12 +1,7 @@
 -- `plan_words::header_with` meets its contract.
-use mathlib.Core.Path.{_≡_, refl, sym, ap, _∙_}
 use borrow.Author.Needs.{needs}
 use Rattle.plan_words.proofs.header_with.Statement.{statement}
 use Rattle.plan_words.proofs.header_with.Tie as tie
-use Rattle.plan_words.proofs.header_with.Reads as reads
-use Rattle.plan_words.proofs.header_with.Lts as lts
-use Rattle.plan_words.proofs.with_bound.Reads as with-bound-reads
-use Rattle.plan_words.proofs.with_mode.Reads as with-mode-reads
 
 enum-known-setting : tie.Need-enum-known-setting
 enum-known-setting c = search needs

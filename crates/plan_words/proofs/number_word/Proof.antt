@@ -1,13 +1,10 @@
 -- `plan_words::number_word` meets its contract.
-use mathlib.Core.Path.{_≡_, refl, sym, ap, _∙_}
+use mathlib.Core.Path.{sym, ap, _∙_}
 use Rattle.plan_text.specs.Quoted.{bytes, codes}
 use Rattle.plan_words.specs.Word.{numberWord, numberIn}
 use borrow.Author.Needs.{needs}
 use Rattle.plan_words.proofs.number_word.Statement.{statement}
 use Rattle.plan_words.proofs.number_word.Tie as tie
-use Rattle.plan_words.proofs.number_word.Reads as reads
-use Rattle.plan_words.proofs.number_word.Lts as lts
-use Rattle.plan_words.proofs.value_after.Reads as value-after-reads
 
 slice-aggregate-value-after : tie.Need-slice-aggregate-value-after
 slice-aggregate-value-after c = search needs
@@ -36,11 +33,12 @@ enum-known-rate c = search needs
 
 returns-2 : tie.Need-returns-2
 unfolding numberWord bytes codes
-returns-2 c = 
+returns-2 c =
     let e1 = c .before .before .before .before .before in
-    rw
-    (sym (e1 .before .before .value-after .ensures) ∙ ap numberIn (e1 .enum-told .given .1),
-    sym (c .before .before .before .value-after2 .ensures) ∙ ap numberIn (c .before .rate .given .1))
+    rw (
+      sym (e1 .before .before .value-after .ensures) ∙ ap numberIn (e1 .enum-told .given .1),
+      sym (c .before .before .before .value-after2 .ensures) ∙ ap numberIn (c .before .rate .given .1),
+    )
 
 enum-told-2 : tie.Need-enum-told-2
 enum-told-2 c = search needs
@@ -56,26 +54,28 @@ enum-known-ancillary c = search needs
 
 returns-3 : tie.Need-returns-3
 unfolding numberWord bytes codes
-returns-3 c = 
+returns-3 c =
     let e2 = c .before .before .before .before .before in
     let e1 = e2 .before .before .before .before in
-    rw
-    (sym (e1 .before .before .value-after .ensures) ∙ ap numberIn (e1 .enum-told .given .1),
-    sym (e2 .before .before .value-after2 .ensures) ∙ ap numberIn (e2 .enum-told2 .given .1),
-    sym (c .before .before .before .value-after3 .ensures) ∙ ap numberIn (c .before .ancillary .given .1))
+    rw (
+      sym (e1 .before .before .value-after .ensures) ∙ ap numberIn (e1 .enum-told .given .1),
+      sym (e2 .before .before .value-after2 .ensures) ∙ ap numberIn (e2 .enum-told2 .given .1),
+      sym (c .before .before .before .value-after3 .ensures) ∙ ap numberIn (c .before .ancillary .given .1),
+    )
 
 enum-told-3 : tie.Need-enum-told-3
 enum-told-3 c = search needs
 
 returns-4 : tie.Need-returns-4
 unfolding numberWord bytes codes
-returns-4 c = 
+returns-4 c =
     let e2 = c .before .before .before .before in
     let e1 = e2 .before .before .before .before in
-    rw
-    (sym (e1 .before .before .value-after .ensures) ∙ ap numberIn (e1 .enum-told .given .1),
-    sym (e2 .before .before .value-after2 .ensures) ∙ ap numberIn (e2 .enum-told2 .given .1),
-    sym (c .before .before .value-after3 .ensures) ∙ ap numberIn (c .enum-told3 .given .1))
+    rw (
+      sym (e1 .before .before .value-after .ensures) ∙ ap numberIn (e1 .enum-told .given .1),
+      sym (e2 .before .before .value-after2 .ensures) ∙ ap numberIn (e2 .enum-told2 .given .1),
+      sym (c .before .before .value-after3 .ensures) ∙ ap numberIn (c .enum-told3 .given .1),
+    )
 
 pub number-word-spec : {M : Type 1} → statement M
 number-word-spec =

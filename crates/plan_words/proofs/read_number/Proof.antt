@@ -1,13 +1,10 @@
 -- `plan_words::read_number` meets its contract.
-use mathlib.Core.Path.{_≡_, refl, sym, ap, _∙_}
+use mathlib.Core.Path.{sym, ap, _∙_}
 use Rattle.plan_text.specs.Digits.{optionOf}
 use Rattle.plan_words.proofs.WordLaws.{no-digits, unread, small, large}
 use borrow.Author.Needs.{needs}
 use Rattle.plan_words.proofs.read_number.Statement.{statement}
 use Rattle.plan_words.proofs.read_number.Tie as tie
-use Rattle.plan_words.proofs.read_number.Reads as reads
-use Rattle.plan_words.proofs.read_number.Lts as lts
-use Rattle.plan_text.proofs.read_digits.Reads as read-digits-reads
 
 returns : tie.Need-returns
 returns c = sym (no-digits _ (c .if1 .taken))
@@ -28,12 +25,12 @@ cast-t7 : tie.Need-cast-t7
 cast-t7 c = search needs
 
 returns-3 : tie.Need-returns-3
-returns-3 c = 
+returns-3 c =
     let r = c .before .before .before .before in
     sym (small _ (r .before .if1 .left) _ (sym (r .read-digits .ensures) ∙ ap optionOf (c .before .before .read .given .1)) (c .if2 .taken))
 
 returns-4 : tie.Need-returns-4
-returns-4 c = 
+returns-4 c =
     let r = c .before .before .before .before in
     sym (large _ (r .before .if1 .left) _ (sym (r .read-digits .ensures) ∙ ap optionOf (c .before .before .read .given .1)) (c .if2 .left))
 

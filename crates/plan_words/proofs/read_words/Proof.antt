@@ -1,5 +1,5 @@
 -- `plan_words::read_words` meets its contract.
-use mathlib.Core.Path.{_≡_, refl, sym, ap, _∙_}
+use mathlib.Core.Path.{_≡_, sym, _∙_}
 use Prim.Native.Nat.{_-_}
 use native.Mathlib.Nat.{le-of-lt}
 use native.Mathlib.Omega.{arith}
@@ -10,17 +10,6 @@ use Rattle.plan_words.proofs.LineLaws.{wordsFrom, at-unknown, at-twice,
 use borrow.Author.Needs.{needs}
 use Rattle.plan_words.proofs.read_words.Statement.{statement}
 use Rattle.plan_words.proofs.read_words.Tie as tie
-use Rattle.plan_words.proofs.read_words.Reads as reads
-use Rattle.plan_words.proofs.read_words.Lts as lts
-use Rattle.plan_text.proofs.find_byte.Reads as find-byte-reads
-use Rattle.plan_text.proofs.past.Reads as past-reads
-use Rattle.plan_words.proofs.defaults.Reads as defaults-reads
-use Rattle.plan_words.proofs.finished.Reads as finished-reads
-use Rattle.plan_words.proofs.is_given.Reads as is-given-reads
-use Rattle.plan_words.proofs.key_of.Reads as key-of-reads
-use Rattle.plan_words.proofs.read_word.Reads as read-word-reads
-use Rattle.plan_words.proofs.refused.Reads as refused-reads
-use Rattle.plan_words.proofs.with_setting.Reads as with-setting-reads
 
 abbrev Inv-loop : tie.InvT-loop
 Inv-loop words settings₀ at₀ settings at = wordsOf words ≡ settled settings (wordsFrom at words)

@@ -1,14 +1,10 @@
 -- `plan_words::value_after` meets its contract.
-use mathlib.Core.Path.{_≡_, refl, sym, ap, _∙_}
+use mathlib.Core.Path.{sym, _∙_}
 use lib.Seq.{length-take-le}
 use Rattle.plan_words.proofs.WordLaws.{too-short, behind-key, other-key}
 use borrow.Author.Needs.{needs}
 use Rattle.plan_words.proofs.value_after.Statement.{statement}
 use Rattle.plan_words.proofs.value_after.Tie as tie
-use Rattle.plan_words.proofs.value_after.Reads as reads
-use Rattle.plan_words.proofs.value_after.Lts as lts
-use Rattle.plan_text.proofs.same.Reads as same-reads
-use Rattle.plan_words.proofs.read_number.Reads as read-number-reads
 
 returns : tie.Need-returns
 returns c = sym (too-short _ _ (c .if1 .taken))

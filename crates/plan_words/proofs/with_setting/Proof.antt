@@ -1,14 +1,8 @@
 -- `plan_words::with_setting` meets its contract.
-use mathlib.Core.Path.{_≡_, refl, sym, ap, _∙_}
 use Rattle.plan_words.specs.Line.{withSetting}
 use borrow.Author.Needs.{needs}
 use Rattle.plan_words.proofs.with_setting.Statement.{statement}
 use Rattle.plan_words.proofs.with_setting.Tie as tie
-use Rattle.plan_words.proofs.with_setting.Reads as reads
-use Rattle.plan_words.proofs.with_setting.Lts as lts
-use Rattle.plan_words.proofs.banc_with.Reads as banc-with-reads
-use Rattle.plan_words.proofs.header_with.Reads as header-with-reads
-use Rattle.plan_words.proofs.key_of.Reads as key-of-reads
 
 key-of-requires : tie.Need-key-of-requires
 key-of-requires c κs = search needs
