@@ -1,0 +1,74 @@
+// The planner's reading and writing: the words of the command line, the ratios from standard input, the answer to standard output.
+ghost use Prim.Native.Nat.{_≤_};
+ghost use lib.ListN.{length};
+use text_line::Line;
+
+// Reads, plans and writes.
+pub fn run() {
+    let mut words = io::buffer();
+    let size = read_words(&mut words);
+    let mut input = io::large_buffer();
+    let count = io::read_full(0, &mut input);
+    write_plan(&words[..size], &input[..count]);
+}
+
+// Puts the words of the command line one behind the other, each ended by a byte 0, and answers how many bytes they take; the
+// whole buffer, which the planner refuses, where they do not fit.
+fn read_words(words: &mut [u8]) -> usize
+    ensures { λ r. ⌜ r ≤ length (now (words .entry)) ⌝ }
+{
+    let end = os::arg_count();
+    let mut at: usize = 0;
+    let mut i: usize = 1;
+    while i < end {
+        at = read_word(i, words, at);
+        i = i + 1;
+    }
+    at
+}
+
+// Puts a word at a place, and answers the place behind its byte 0.
+fn read_word(i: usize, words: &mut [u8], at: usize) -> usize
+    requires { ⌜ at ≤ length (now words) ⌝ }
+    ensures { λ r. ⌜ r ≤ length (now (words .entry)) ⌝ }
+{
+    let size = os::arg(i, &mut words[at..]);
+    if os::errno() != 0 {
+        return words.len();
+    }
+    let end = at + size;
+    if end < words.len() {
+        words[end] = 0;
+        end + 1
+    } else {
+        words.len()
+    }
+}
+
+// A proved loop has to end: the lines are counted up to a number that no answer has.
+fn write_plan(words: &[u8], input: &[u8]) {
+    let mut n: usize = 0;
+    while n < usize::MAX {
+        if !write_line(words, input, n) {
+            break;
+        }
+        n = n + 1;
+    }
+}
+
+// Writes the line of a number, and answers whether there was one.
+fn write_line(words: &[u8], input: &[u8], n: usize) -> bool {
+    let plan = planner::plan_line(words, input, n);
+    if plan.there {
+        let line = plan.line;
+        write_text(line);
+    }
+    plan.there
+}
+
+fn write_text(line: Line) {
+    let bytes = line.bytes;
+    let size = line.size();
+    io::write_all(1, &bytes[..size]);
+    io::write_all(1, b"\n");
+}
