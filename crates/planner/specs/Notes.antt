@@ -16,7 +16,7 @@ excerpt words at end = take (min (end - at) 80) (drop at words)
 unfoldable pub unknownText : List ℕ → ℕ → ℕ → List ℕ
 unknownText words at end =
     text "cannot read '" ++ excerpt words at end
-    ++ text "': a word is fs=, rate=, mode=, bound=, lsf=, padding=, crc= or ancillary= with its value."
+    ++ text "': say fs=, rate= or ancillary= with a number, mode=stereo, joint, dual or single, bound=4, 8, 12 or 16, lsf=, padding= or crc= with 0 or 1."
 
 unfoldable pub twiceText : List ℕ → ℕ → ℕ → List ℕ
 twiceText words at end = text "given twice: '" ++ excerpt words at end ++ text "'."

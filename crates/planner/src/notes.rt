@@ -10,7 +10,7 @@ pub fn unknown_word(words: &[u8], at: usize, end: usize) -> Line
     ensures { λ r. ⌜ textOf r ≡ unknownText (now (words .entry)) at end ⌝ }
 {
     let line = with_excerpt(Line::new().text(b"cannot read '"), words, at, end);
-    line.text(b"': a word is fs=, rate=, mode=, bound=, lsf=, padding=, crc= or ancillary= with its value.")
+    line.text(b"': say fs=, rate= or ancillary= with a number, mode=stereo, joint, dual or single, bound=4, 8, 12 or 16, lsf=, padding= or crc= with 0 or 1.")
 }
 
 pub fn twice_word(words: &[u8], at: usize, end: usize) -> Line
