@@ -30,6 +30,7 @@ use Rattle.encoder_bit_budget.specs.declared.Budget.{Budget}
 use Rattle.encoder_bit_budget.specs.declared.Budget.the-variants.{Ok}
 use Rattle.encoder_bit_budget.specs.Budget.{isSome, budgetOf, availableOf, Bounded}
 use Rattle.encoder_bit_budget.specs.Demand.{demandOf}
+use Rattle.encoder_bit_allocator.specs.declared.Allocation.{Allocation}
 use Rattle.encoder_bit_allocator.specs.Allocation.{allocationOf}
 use Rattle.c_answers.specs.Answers.{Reply, reply, orNothing}
 use Rattle.c_answers.specs.Arguments.{numberOf}
@@ -76,15 +77,21 @@ stepsAllocated smr banc h =
     let a = allocationOf h (rowsOf smr) banc in
     reply (a .number) (a .audio .«nb_steps»)
 
+abbrev pub allocationBits : Allocation → List ℕ
+allocationBits a = a .left ∷ a .cb ∷ a .fixed ∷ a .banc ∷ []
+
 abbrev pub bitsAllocated : List Float → ℕ → FrameHeader → Reply ℕ
 bitsAllocated smr banc h =
     let a = allocationOf h (rowsOf smr) banc in
-    reply (a .number) (a .left ∷ a .cb ∷ a .fixed ∷ a .banc ∷ [])
+    reply (a .number) (allocationBits a)
 
 -- ---- of a table
 
+abbrev pub limitsOf : BitAllocTable → ℕ → List ℕ
+limitsOf t sb = sblimitOf t ∷ nbalOf t sb ∷ []
+
 abbrev pub limitsAt : ℕ → BitAllocTable → Reply ℕ
-limitsAt sb t = reply 0 (sblimitOf t ∷ nbalOf t sb ∷ [])
+limitsAt sb t = reply 0 (limitsOf t sb)
 
 abbrev pub stepsFound : ℕ → ℕ → BitAllocTable → Reply ℕ
 stepsFound sb index t = orNothing (stepsAt t sb index)

@@ -5,12 +5,13 @@ ghost use Rattle.header.specs.Header.{sizeOf};
 ghost use Rattle.header.specs.Questions.{number};
 ghost use Rattle.bitalloc.specs.Options.{tableIn, classIn};
 ghost use Rattle.encoder_samples.specs.Entries.{codedOf};
-ghost use Rattle.c_answers.specs.Replies.{tableFound, tableOr, classFound, classOr, figuresOf};
+ghost use Rattle.c_answers.specs.Replies.{tableFound, tableOr, classFound, classOr, figuresOf, limitsOf, allocationBits, tripletValues, selectionValues};
 use crate::arguments;
-use bitalloc::{OptionClass, OptionTable};
+use bitalloc::{BitAllocTable, OptionClass, OptionTable};
 use encoder_bit_allocator::Allocation;
 use encoder_bit_budget::AvailableBits;
-use encoder_samples::SampleCode;
+use encoder_samples::{SampleCode, Triplet};
+use encoder_scfsi::ScfsiSelection;
 use header::FrameSize;
 
 pub fn selected_number(selected: OptionTable) -> u32
@@ -120,4 +121,48 @@ pub fn sample_code(coded: SampleCode) -> u32
         SampleCode::Code(code) => code,
         SampleCode::NoClass => 0,
     }
+}
+
+// The bits left, and cb, fixed and banc.
+pub fn allocation_bits(allocation: Allocation) -> [u32; 4]
+    ensures { λ r. ⌜ r ≡ allocationBits allocation ⌝ }
+{
+    [allocation.left, allocation.cb, allocation.fixed, allocation.banc]
+}
+
+// How many subbands a table carries, and the bits of a subband's allocation field.
+pub fn limits(table: BitAllocTable, sb: usize) -> [u32; 2]
+    ensures { λ r. ⌜ r ≡ limitsOf table sb ⌝ }
+{
+    [table.sblimit() as u32, table.nbal(sb)]
+}
+
+// Count, width and the three codewords.
+pub fn triplet_values(triplet: Triplet) -> [u32; 5]
+    ensures { λ r. ⌜ r ≡ tripletValues triplet ⌝ }
+{
+    let codewords = triplet.codewords;
+    [triplet.count, triplet.width, codewords[0], codewords[1], codewords[2]]
+}
+
+// The three used, three write flags, scfsi, and both classes.
+pub fn selection_values(selection: ScfsiSelection) -> [u8; 9]
+    ensures { λ r. ⌜ r ≡ selectionValues selection ⌝ }
+{
+    let used = selection.used;
+    let pattern = selection.pattern;
+    let scfsi = selection.scfsi;
+    let class1 = selection.class1;
+    let class2 = selection.class2;
+    [
+        used[0],
+        used[1],
+        used[2],
+        pattern.write0 as u8,
+        pattern.write1 as u8,
+        pattern.write2 as u8,
+        scfsi.code(),
+        class1.as_index(),
+        class2.as_index(),
+    ]
 }

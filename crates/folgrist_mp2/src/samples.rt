@@ -31,8 +31,7 @@ pub extern "C" fn folgrist_write_triplet(steps: u32, a: f64, b: f64, c: f64, out
     }
     let answer = encoder_samples::write_triplet_for(steps, [a, b, c]);
     let triplet = answer.triplet;
-    let codewords = triplet.codewords;
-    let values = [triplet.count, triplet.width, codewords[0], codewords[1], codewords[2]];
+    let values = parts::triplet_values(triplet);
     writing::put(&values, out);
     answer.number
 }

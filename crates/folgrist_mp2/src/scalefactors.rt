@@ -10,6 +10,7 @@ ghost use Rattle.encoder_scalefactors.specs.Indices.{PickIs};
 ghost use Rattle.c_answers.specs.Answers.{asked, answered, written, Answers};
 ghost use Rattle.c_answers.specs.Replies.{granuleIndexed, subbandRows, byGranule, frameIndexed, scfsiSelected};
 use crate::writing;
+use c_answers::parts;
 
 // The last index whose multiplier is at least `max_abs`.
 #[no_mangle]
@@ -28,22 +29,7 @@ pub extern "C" fn folgrist_select_scfsi(a: u8, b: u8, c: u8, out: &mut [u8]) -> 
         return 98;
     }
     let selection = encoder_scfsi::select_scfsi([a, b, c]);
-    let used = selection.used;
-    let pattern = selection.pattern;
-    let scfsi = selection.scfsi;
-    let class1 = selection.class1;
-    let class2 = selection.class2;
-    let values = [
-        used[0],
-        used[1],
-        used[2],
-        pattern.write0 as u8,
-        pattern.write1 as u8,
-        pattern.write2 as u8,
-        scfsi.code(),
-        class1.as_index(),
-        class2.as_index(),
-    ];
+    let values = parts::selection_values(selection);
     writing::put_bytes(&values, out);
     0
 }

@@ -22,7 +22,7 @@ pub extern "C" fn folgrist_table_limits(table: u8, sb: u64, out: &mut [u32]) -> 
     match given {
         TableGiven::Refused(number) => number,
         TableGiven::Meant(t) => {
-            let limits = [t.sblimit() as u32, t.nbal(sb as usize)];
+            let limits = parts::limits(t, sb as usize);
             writing::put(&limits, out);
             0
         }

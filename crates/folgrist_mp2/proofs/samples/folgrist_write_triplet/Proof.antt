@@ -1,5 +1,5 @@
 -- `folgrist_mp2::samples::folgrist_write_triplet` meets its contract: the reply is the triplet that `write_triplet_for` answers.
-use mathlib.Core.Path.{ap}
+use mathlib.Core.Path.{ap, _∙_}
 use borrow.Author.Tests.{lt-ltb, le-ltb}
 use borrow.Author.Needs.{needs}
 use Rattle.c_answers.proofs.AnswerLaws.{too-short, long-enough, refused-by, meant-by}
@@ -14,14 +14,8 @@ returns c = refused-by _ _ _ _ (too-short _ _ (lt-ltb _ _ (c .if1 .taken)))
 write-triplet-for-requires : tie.Need-write-triplet-for-requires
 write-triplet-for-requires c κs = search needs
 
-array-read-t15 : tie.Need-array-read-t15
-array-read-t15 c = search needs
-
-array-read-t18 : tie.Need-array-read-t18
-array-read-t18 c = search needs
-
-array-read-t21 : tie.Need-array-read-t21
-array-read-t21 c = search needs
+triplet-values-requires : tie.Need-triplet-values-requires
+triplet-values-requires c κs = search needs
 
 slice-aggregate-put : tie.Need-slice-aggregate-put
 slice-aggregate-put c = search needs
@@ -35,9 +29,11 @@ same-length c = search needs
 returns-2 : tie.Need-returns-2
 returns-2 c =
     let p = c .before .before in
-    let w = p .before .before .before .before .before in
-    meant-by _ _ _ _ _ _ _ (long-enough _ _ (le-ltb _ _ (w .before .if1 .left)))
-    (ap (λ a. reply (a .number) (tripletValues (a .triplet))) (w .write-triplet-for .ensures .whole))
+    let v = p .before .before .before in
+    let w = v .before .before in
+    meant-by _ _ _ _ _ (v .triplet-values .result) _ (long-enough _ _ (le-ltb _ _ (w .before .if1 .left)))
+    (ap (reply (w .write-triplet-for .result .number)) (v .triplet-values .ensures)
+    ∙ ap (λ a. reply (a .number) (tripletValues (a .triplet))) (w .write-triplet-for .ensures .whole))
     (p .put .ensures)
 
 pub folgrist-write-triplet-spec : {M : Type 1} → statement M
@@ -46,9 +42,7 @@ folgrist-write-triplet-spec =
     (tie.spec
     returns
     write-triplet-for-requires
-    array-read-t15
-    array-read-t18
-    array-read-t21
+    triplet-values-requires
     slice-aggregate-put
     put-requires
     same-length

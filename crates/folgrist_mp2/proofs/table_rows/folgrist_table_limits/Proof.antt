@@ -1,7 +1,6 @@
 -- `folgrist_mp2::table_rows::folgrist_table_limits` meets its contract: the reply has what the table says.
 use borrow.Author.Tests.{ltb-false}
-use mathlib.Core.Path.{ap₂}
-use mathlib.Core.List.{[], _∷_}
+use mathlib.Core.Path.{ap}
 use borrow.Author.Needs.{needs}
 use Rattle.c_answers.proofs.AnswerLaws.{room, refused-by, meant-by}
 use Rattle.c_answers.proofs.ArgumentLaws.{table-refused, table-meant}
@@ -18,22 +17,16 @@ enum-known-given c = search needs
 enum-known-given-2 : tie.Need-enum-known-given-2
 enum-known-given-2 c = search needs
 
-sblimit-requires : tie.Need-sblimit-requires
-sblimit-requires c κs = search needs
-
-cast-t12 : tie.Need-cast-t12
-cast-t12 c = search needs
-
-nbal-requires : tie.Need-nbal-requires
-nbal-requires c κs = search needs
+limits-requires : tie.Need-limits-requires
+limits-requires c κs = search needs
 
 slice-aggregate-put : tie.Need-slice-aggregate-put
 slice-aggregate-put c = search needs
 
 put-requires : tie.Need-put-requires
 put-requires c κs =
-    let k = c .before .before .before .before in
-    ltb-false _ _ (room _ _ _ (table-meant _ _ _ (k .before .before .before .table-given .ensures) (k .before .given2 .given .1)))
+    let k = c .before .before .before in
+    rw (c .before .before .limits .ensures) (ltb-false _ _ (room _ _ _ (table-meant _ _ _ (k .before .before .before .table-given .ensures) (k .before .given2 .given .1))))
 
 returns : tie.Need-returns
 returns c = refused-by _ _ _ _ (table-refused _ _ _ (c .before .before .before .table-given .ensures) (c .before .given .given .1))
@@ -44,9 +37,9 @@ same-length c = search needs
 returns-2 : tie.Need-returns-2
 returns-2 c =
     let p = c .before .before in
-    let l = p .before .before in
-    let k = l .before .before .before in
-    meant-by _ _ _ _ 0 (l .before .before .sblimit .result ∷ l .before .nbal .result ∷ []) _ (table-meant _ _ _ (k .before .before .before .table-given .ensures) (k .before .given2 .given .1)) (ap₂ (λ n b. reply 0 (n ∷ b ∷ [])) (l .before .before .sblimit .ensures .0) (l .before .nbal .ensures .whole)) (p .put .ensures)
+    let l = p .before .before .before in
+    let k = l .before in
+    meant-by _ _ _ _ 0 (l .limits .result) _ (table-meant _ _ _ (k .before .before .before .table-given .ensures) (k .before .given2 .given .1)) (ap (reply 0) (l .limits .ensures)) (p .put .ensures)
 
 pub folgrist-table-limits-spec : {M : Type 1} → statement M
 folgrist-table-limits-spec =
@@ -55,9 +48,7 @@ folgrist-table-limits-spec =
     table-given-requires
     enum-known-given
     enum-known-given-2
-    sblimit-requires
-    cast-t12
-    nbal-requires
+    limits-requires
     slice-aggregate-put
     put-requires
     returns
