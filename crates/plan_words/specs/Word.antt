@@ -68,15 +68,15 @@ unfoldable pub valueAfter : List ℕ → List ℕ → Option ℕ
 valueAfter key w = cond (same (take (length key) w) key) (number (drop (length key) w)) none
 
 -- what the number sets, where there is one
-abbrev pub sets : (ℕ → Setting) → Option ℕ → Setting → Setting
-sets f (some n) other = f n
-sets f none other = other
+abbrev pub whereRead : (ℕ → Setting) → Option ℕ → Setting → Setting
+whereRead f (some n) other = f n
+whereRead f none other = other
 
 unfoldable pub numberWord : List ℕ → Setting
 numberWord w =
-    sets SampleRate (valueAfter (bytes "fs=") w)
-    (sets BitRate (valueAfter (bytes "rate=") w)
-    (sets Ancillary (valueAfter (bytes "ancillary=") w)
+    whereRead SampleRate (valueAfter (bytes "fs=") w)
+    (whereRead BitRate (valueAfter (bytes "rate=") w)
+    (whereRead Ancillary (valueAfter (bytes "ancillary=") w)
     Unknown))
 
 -- ---- any word
