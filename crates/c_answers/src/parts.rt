@@ -14,6 +14,7 @@ use encoder_samples::{SampleCode, Triplet};
 use encoder_scfsi::ScfsiSelection;
 use header::FrameSize;
 
+// 0 with a table, 1 without.
 pub fn selected_number(selected: OptionTable) -> u32
     ensures { λ r. ⌜ r ≡ number (tableFound (tableIn selected) ∷ []) ⌝ }
 {
@@ -23,6 +24,7 @@ pub fn selected_number(selected: OptionTable) -> u32
     }
 }
 
+// The table's number, 0 without.
 pub fn selected_table(selected: OptionTable) -> u32
     ensures { λ r. ⌜ r ≡ tableOr (tableIn selected) ⌝ }
 {
@@ -32,6 +34,7 @@ pub fn selected_table(selected: OptionTable) -> u32
     }
 }
 
+// A frame size's number.
 pub fn size_number(size: FrameSize) -> u32
     ensures { λ r. ⌜ r ≡ sizeOf size .answer ⌝ }
 {
@@ -41,6 +44,7 @@ pub fn size_number(size: FrameSize) -> u32
     }
 }
 
+// A frame size's bytes, 0 where it is refused.
 pub fn size_bytes(size: FrameSize) -> u64
     ensures { λ r. ⌜ r ≡ sizeOf size .bytes ⌝ }
 {
@@ -50,12 +54,14 @@ pub fn size_bytes(size: FrameSize) -> u64
     }
 }
 
+// The bits offered.
 pub fn offered_bits(available: AvailableBits) -> i64
     ensures { λ r. ⌜ r ≡ available .bits ⌝ }
 {
     available.bits
 }
 
+// The steps of every slot.
 pub fn steps_by_slot(allocation: Allocation) -> [u32; 64]
     ensures { λ r. ⌜ r ≡ allocation .audio .«nb_steps» ⌝ }
 {
@@ -63,6 +69,7 @@ pub fn steps_by_slot(allocation: Allocation) -> [u32; 64]
     audio.nb_steps
 }
 
+// 0 with a class, 5 without.
 pub fn class_number(found: OptionClass) -> u32
     ensures { λ r. ⌜ r ≡ number (classFound (classIn found) ∷ []) ⌝ }
 {
@@ -72,6 +79,7 @@ pub fn class_number(found: OptionClass) -> u32
     }
 }
 
+// C, 0 without a class.
 pub fn coefficient_c(found: OptionClass) -> f64
     ensures { λ r. ⌜ r ≡ classOr (classIn found) .c ⌝ }
 {
@@ -81,6 +89,7 @@ pub fn coefficient_c(found: OptionClass) -> f64
     }
 }
 
+// D, 0 without a class.
 pub fn coefficient_d(found: OptionClass) -> f64
     ensures { λ r. ⌜ r ≡ classOr (classIn found) .d ⌝ }
 {
@@ -90,7 +99,7 @@ pub fn coefficient_d(found: OptionClass) -> f64
     }
 }
 
-// Grouping, samples and bits per codeword, bits per sample.
+// Grouping, samples and bits per codeword, bits per sample; zeros without a class.
 pub fn figures(found: OptionClass) -> [u32; 4]
     ensures { λ r. ⌜ r ≡ figuresOf (classOr (classIn found)) ⌝ }
 {
@@ -105,6 +114,7 @@ pub fn figures(found: OptionClass) -> [u32; 4]
     }
 }
 
+// A sample code's number.
 pub fn code_number(coded: SampleCode) -> u32
     ensures { λ r. ⌜ r ≡ codedOf coded .answer ⌝ }
 {
@@ -114,6 +124,7 @@ pub fn code_number(coded: SampleCode) -> u32
     }
 }
 
+// The code, 0 where it is refused.
 pub fn sample_code(coded: SampleCode) -> u32
     ensures { λ r. ⌜ r ≡ codedOf coded .code ⌝ }
 {

@@ -25,7 +25,12 @@ pub extern "C" fn folgrist_select_table(
     mode_extension: u8,
     out: &mut [u32],
 ) -> u32
-    ensures { λ r. ⌜ Answers (answered (headerAsked (ltb (length (now (out .entry))) 1) lsf «bit_rate» «sample_rate» padding «protection_bit» mode «mode_extension») tableSelected) (now (out .entry)) r (now (out .exit)) ⌝ }
+    ensures { λ r. ⌜ Answers
+        (answered
+          (headerAsked (ltb (length (now (out .entry))) 1)
+            lsf «bit_rate» «sample_rate» padding «protection_bit» mode «mode_extension»)
+          tableSelected)
+        (now (out .entry)) r (now (out .exit)) ⌝ }
 {
     let short = out.len() < 1;
     let given = arguments::header_given(short, lsf, bit_rate, sample_rate, padding, protection_bit, mode, mode_extension);
@@ -51,7 +56,12 @@ pub extern "C" fn folgrist_frame_size_bytes(
     mode_extension: u8,
     out: &mut [u64],
 ) -> u32
-    ensures { λ r. ⌜ Answers (answered (headerAsked (ltb (length (now (out .entry))) 1) lsf «bit_rate» «sample_rate» padding «protection_bit» mode «mode_extension») frameSized) (now (out .entry)) r (now (out .exit)) ⌝ }
+    ensures { λ r. ⌜ Answers
+        (answered
+          (headerAsked (ltb (length (now (out .entry))) 1)
+            lsf «bit_rate» «sample_rate» padding «protection_bit» mode «mode_extension»)
+          frameSized)
+        (now (out .entry)) r (now (out .exit)) ⌝ }
 {
     let short = out.len() < 1;
     let given = arguments::header_given(short, lsf, bit_rate, sample_rate, padding, protection_bit, mode, mode_extension);
@@ -77,7 +87,12 @@ pub extern "C" fn folgrist_fixed_bit_budget(
     mode_extension: u8,
     out: &mut [u32],
 ) -> u32
-    ensures { λ r. ⌜ Answers (answered (headerAsked (ltb (length (now (out .entry))) 8) lsf «bit_rate» «sample_rate» padding «protection_bit» mode «mode_extension») budgetFixed) (now (out .entry)) r (now (out .exit)) ⌝ }
+    ensures { λ r. ⌜ Answers
+        (answered
+          (headerAsked (ltb (length (now (out .entry))) 8)
+            lsf «bit_rate» «sample_rate» padding «protection_bit» mode «mode_extension»)
+          budgetFixed)
+        (now (out .entry)) r (now (out .exit)) ⌝ }
 {
     let short = out.len() < 8;
     let given = arguments::header_given(short, lsf, bit_rate, sample_rate, padding, protection_bit, mode, mode_extension);
@@ -129,7 +144,12 @@ pub extern "C" fn folgrist_available_data_bits(
     banc: u32,
     out: &mut [i64],
 ) -> u32
-    ensures { λ r. ⌜ Answers (answered (headerAsked (ltb (length (now (out .entry))) 1) lsf «bit_rate» «sample_rate» padding «protection_bit» mode «mode_extension») (bitsAvailable banc)) (now (out .entry)) r (now (out .exit)) ⌝ }
+    ensures { λ r. ⌜ Answers
+        (answered
+          (headerAsked (ltb (length (now (out .entry))) 1)
+            lsf «bit_rate» «sample_rate» padding «protection_bit» mode «mode_extension»)
+          (bitsAvailable banc))
+        (now (out .entry)) r (now (out .exit)) ⌝ }
 {
     let short = out.len() < 1;
     let given = arguments::header_given(short, lsf, bit_rate, sample_rate, padding, protection_bit, mode, mode_extension);
@@ -156,7 +176,12 @@ pub extern "C" fn folgrist_demand_bits(
     smr_db: &[f64],
     out: &mut [u64],
 ) -> u32
-    ensures { λ r. ⌜ Answers (answered (headerAsked (ltb (length (now («smr_db» .entry))) 64 || ltb (length (now (out .entry))) 1) lsf «bit_rate» «sample_rate» padding «protection_bit» mode «mode_extension») (bitsDemanded (now («smr_db» .entry)))) (now (out .entry)) r (now (out .exit)) ⌝ }
+    ensures { λ r. ⌜ Answers
+        (answered
+          (headerAsked (ltb (length (now («smr_db» .entry))) 64 || ltb (length (now (out .entry))) 1)
+            lsf «bit_rate» «sample_rate» padding «protection_bit» mode «mode_extension»)
+          (bitsDemanded (now («smr_db» .entry))))
+        (now (out .entry)) r (now (out .exit)) ⌝ }
 {
     let short = (smr_db.len() < 64) | (out.len() < 1);
     let given = arguments::header_given(short, lsf, bit_rate, sample_rate, padding, protection_bit, mode, mode_extension);
@@ -185,8 +210,18 @@ pub extern "C" fn folgrist_allocate_bits(
     steps: &mut [u32],
     out: &mut [u32],
 ) -> u32
-    ensures { λ r. ⌜ Answers (answered (headerAsked (ltb (length (now («smr_db» .entry))) 64 || (ltb (length (now (steps .entry))) 64 || ltb (length (now (out .entry))) 4)) lsf «bit_rate» «sample_rate» padding «protection_bit» mode «mode_extension») (stepsAllocated (now («smr_db» .entry)) banc)) (now (steps .entry)) r (now (steps .exit)) ⌝ }
-    ensures { λ r. ⌜ Answers (answered (headerAsked (ltb (length (now («smr_db» .entry))) 64 || (ltb (length (now (steps .entry))) 64 || ltb (length (now (out .entry))) 4)) lsf «bit_rate» «sample_rate» padding «protection_bit» mode «mode_extension») (bitsAllocated (now («smr_db» .entry)) banc)) (now (out .entry)) r (now (out .exit)) ⌝ }
+    ensures { λ r. ⌜ Answers
+        (answered
+          (headerAsked (ltb (length (now («smr_db» .entry))) 64 || (ltb (length (now (steps .entry))) 64 || ltb (length (now (out .entry))) 4))
+            lsf «bit_rate» «sample_rate» padding «protection_bit» mode «mode_extension»)
+          (stepsAllocated (now («smr_db» .entry)) banc))
+        (now (steps .entry)) r (now (steps .exit)) ⌝ }
+    ensures { λ r. ⌜ Answers
+        (answered
+          (headerAsked (ltb (length (now («smr_db» .entry))) 64 || (ltb (length (now (steps .entry))) 64 || ltb (length (now (out .entry))) 4))
+            lsf «bit_rate» «sample_rate» padding «protection_bit» mode «mode_extension»)
+          (bitsAllocated (now («smr_db» .entry)) banc))
+        (now (out .entry)) r (now (out .exit)) ⌝ }
 {
     let short = (smr_db.len() < 64) | ((steps.len() < 64) | (out.len() < 4));
     let given = arguments::header_given(short, lsf, bit_rate, sample_rate, padding, protection_bit, mode, mode_extension);

@@ -11,7 +11,11 @@ use c_answers::parts;
 // The code of a sample in the class of a number of steps.
 #[no_mangle]
 pub extern "C" fn folgrist_quantize_sample(steps: u32, sample: f64, out: &mut [u32]) -> u32
-    ensures { λ r. ⌜ Answers (answered (asked (ltb (length (now (out .entry))) 1) (some steps)) (sampleCoded sample)) (now (out .entry)) r (now (out .exit)) ⌝ }
+    ensures { λ r. ⌜ Answers
+        (answered
+          (asked (ltb (length (now (out .entry))) 1) (some steps))
+          (sampleCoded sample))
+        (now (out .entry)) r (now (out .exit)) ⌝ }
 {
     if out.len() < 1 {
         return 98;
@@ -24,7 +28,11 @@ pub extern "C" fn folgrist_quantize_sample(steps: u32, sample: f64, out: &mut [u
 // The codewords of three consecutive samples in the class of a number of steps.
 #[no_mangle]
 pub extern "C" fn folgrist_write_triplet(steps: u32, a: f64, b: f64, c: f64, out: &mut [u32]) -> u32
-    ensures { λ r. ⌜ Answers (answered (asked (ltb (length (now (out .entry))) 5) (some steps)) (tripletCoded (a ∷ b ∷ c ∷ []))) (now (out .entry)) r (now (out .exit)) ⌝ }
+    ensures { λ r. ⌜ Answers
+        (answered
+          (asked (ltb (length (now (out .entry))) 5) (some steps))
+          (tripletCoded (a ∷ b ∷ c ∷ [])))
+        (now (out .entry)) r (now (out .exit)) ⌝ }
 {
     if out.len() < 5 {
         return 98;

@@ -23,7 +23,11 @@ pub extern "C" fn folgrist_pick_scalefactor_index(max_abs: f64) -> u8
 // Which of three scalefactor indices are used, and which are transmitted.
 #[no_mangle]
 pub extern "C" fn folgrist_select_scfsi(a: u8, b: u8, c: u8, out: &mut [u8]) -> u32
-    ensures { λ r. ⌜ Answers (answered (asked (ltb (length (now (out .entry))) 9) (some (a ∷ b ∷ c ∷ []))) scfsiSelected) (now (out .entry)) r (now (out .exit)) ⌝ }
+    ensures { λ r. ⌜ Answers
+        (answered
+          (asked (ltb (length (now (out .entry))) 9) (some (a ∷ b ∷ c ∷ [])))
+          scfsiSelected)
+        (now (out .entry)) r (now (out .exit)) ⌝ }
 {
     if out.len() < 9 {
         return 98;
@@ -37,7 +41,11 @@ pub extern "C" fn folgrist_select_scfsi(a: u8, b: u8, c: u8, out: &mut [u8]) -> 
 // The index of a granule's twelve samples.
 #[no_mangle]
 pub extern "C" fn folgrist_extract_scalefactor_index(samples: &[f64], out: &mut [u8]) -> u32
-    ensures { λ r. ⌜ Answers (answered (asked (ltb (length (now (samples .entry))) 12 || ltb (length (now (out .entry))) 1) (some (now (samples .entry)))) granuleIndexed) (now (out .entry)) r (now (out .exit)) ⌝ }
+    ensures { λ r. ⌜ Answers
+        (answered
+          (asked (ltb (length (now (samples .entry))) 12 || ltb (length (now (out .entry))) 1) (some (now (samples .entry))))
+          granuleIndexed)
+        (now (out .entry)) r (now (out .exit)) ⌝ }
 {
     if (samples.len() < 12) | (out.len() < 1) {
         return 98;
@@ -61,7 +69,11 @@ fn granule_of(samples: &[f64]) -> [f64; 12]
 // The indices of a frame's samples.
 #[no_mangle]
 pub extern "C" fn folgrist_compute_scalefactors(samples: &[f64], limit: u64, out: &mut [u8]) -> u32
-    ensures { λ r. ⌜ Answers (answered (asked (ltb (length (now (samples .entry))) 1152 || ltb (length (now (out .entry))) 96) (some (now (samples .entry)))) (frameIndexed limit)) (now (out .entry)) r (now (out .exit)) ⌝ }
+    ensures { λ r. ⌜ Answers
+        (answered
+          (asked (ltb (length (now (samples .entry))) 1152 || ltb (length (now (out .entry))) 96) (some (now (samples .entry))))
+          (frameIndexed limit))
+        (now (out .entry)) r (now (out .exit)) ⌝ }
 {
     if (samples.len() < 1152) | (out.len() < 96) {
         return 98;

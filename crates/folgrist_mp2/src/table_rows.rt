@@ -16,7 +16,11 @@ use bitalloc::OptionU32;
 // How many subbands a table carries, and the bits of a subband's allocation field.
 #[no_mangle]
 pub extern "C" fn folgrist_table_limits(table: u8, sb: u64, out: &mut [u32]) -> u32
-    ensures { λ r. ⌜ Answers (answered (tableAsked (ltb (length (now (out .entry))) 2) table) (limitsAt sb)) (now (out .entry)) r (now (out .exit)) ⌝ }
+    ensures { λ r. ⌜ Answers
+        (answered
+          (tableAsked (ltb (length (now (out .entry))) 2) table)
+          (limitsAt sb))
+        (now (out .entry)) r (now (out .exit)) ⌝ }
 {
     let given = arguments::table_given(out.len() < 2, table);
     match given {
@@ -32,7 +36,11 @@ pub extern "C" fn folgrist_table_limits(table: u8, sb: u64, out: &mut [u32]) -> 
 // The steps at a place of a subband's row.
 #[no_mangle]
 pub extern "C" fn folgrist_nb_steps(table: u8, sb: u64, index: u32, out: &mut [u32]) -> u32
-    ensures { λ r. ⌜ Answers (answered (tableAsked (ltb (length (now (out .entry))) 1) table) (stepsFound sb index)) (now (out .entry)) r (now (out .exit)) ⌝ }
+    ensures { λ r. ⌜ Answers
+        (answered
+          (tableAsked (ltb (length (now (out .entry))) 1) table)
+          (stepsFound sb index))
+        (now (out .entry)) r (now (out .exit)) ⌝ }
 {
     let given = arguments::table_given(out.len() < 1, table);
     match given {
@@ -53,7 +61,11 @@ pub extern "C" fn folgrist_nb_steps(table: u8, sb: u64, index: u32, out: &mut [u
 // The place of a subband's row that has these steps.
 #[no_mangle]
 pub extern "C" fn folgrist_allocation_index(table: u8, sb: u64, steps: u32, out: &mut [u32]) -> u32
-    ensures { λ r. ⌜ Answers (answered (tableAsked (ltb (length (now (out .entry))) 1) table) (indexFound sb steps)) (now (out .entry)) r (now (out .exit)) ⌝ }
+    ensures { λ r. ⌜ Answers
+        (answered
+          (tableAsked (ltb (length (now (out .entry))) 1) table)
+          (indexFound sb steps))
+        (now (out .entry)) r (now (out .exit)) ⌝ }
 {
     let given = arguments::table_given(out.len() < 1, table);
     match given {
@@ -74,8 +86,16 @@ pub extern "C" fn folgrist_allocation_index(table: u8, sb: u64, steps: u32, out:
 // The class of quantization of a number of steps.
 #[no_mangle]
 pub extern "C" fn folgrist_class_of_quantization(steps: u32, cd: &mut [f64], out: &mut [u32]) -> u32
-    ensures { λ r. ⌜ Answers (answered (asked (ltb (length (now (cd .entry))) 2 || ltb (length (now (out .entry))) 4) (some steps)) coefficients) (now (cd .entry)) r (now (cd .exit)) ⌝ }
-    ensures { λ r. ⌜ Answers (answered (asked (ltb (length (now (cd .entry))) 2 || ltb (length (now (out .entry))) 4) (some steps)) classFigures) (now (out .entry)) r (now (out .exit)) ⌝ }
+    ensures { λ r. ⌜ Answers
+        (answered
+          (asked (ltb (length (now (cd .entry))) 2 || ltb (length (now (out .entry))) 4) (some steps))
+          coefficients)
+        (now (cd .entry)) r (now (cd .exit)) ⌝ }
+    ensures { λ r. ⌜ Answers
+        (answered
+          (asked (ltb (length (now (cd .entry))) 2 || ltb (length (now (out .entry))) 4) (some steps))
+          classFigures)
+        (now (out .entry)) r (now (out .exit)) ⌝ }
 {
     if (cd.len() < 2) | (out.len() < 4) {
         return 98;
