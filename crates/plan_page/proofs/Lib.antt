@@ -1,3 +1,4 @@
 pub mod Lengths
 pub mod PageLaws
 pub mod RowLaws
+pub mod Examples

@@ -1,5 +1,5 @@
 -- Laws of the heading and of a row: with one channel, and with two.
-use mathlib.Core.Path.{_≡_, refl, sym, ap, ap₂, _∙_}
+use mathlib.Core.Path.{_≡_, sym, ap, ap₂, _∙_}
 use mathlib.Core.Bool.{Bool, true, false, cond}
 use mathlib.Core.List.{List, [], _∷_, _++_, append-assoc, append-nil, map}
 use Prim.Native.Nat.{ℕ, _+_, _*_, _≤_, _<_}
@@ -10,7 +10,7 @@ use lib.ListN.{length, getD}
 use borrow.Author.Tests.{eq-eqb, ne-eqb, lt-ltb, le-ltb}
 use Rattle.bitalloc.specs.Classes.{sampleBits}
 use Rattle.encoder_bit_budget.specs.declared.FixedBitBudget.{FixedBitBudget}
-use Rattle.encoder_bit_budget.specs.Layout.{Field, sumOver}
+use Rattle.encoder_bit_budget.specs.Layout.{sumOver}
 use Rattle.encoder_bit_budget.specs.Demand.{smrAt}
 use Rattle.encoder_bit_allocator.specs.Allocation.{fieldSteps}
 use Rattle.encoder_bit_allocator.specs.Numbering.{chargeBy}

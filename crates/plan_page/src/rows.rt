@@ -4,7 +4,6 @@ ghost use mathlib.Core.List.{_++_};
 ghost use mathlib.Core.Bool.{cond};
 ghost use Prim.Native.Nat.{_+_, _≤_, _<_};
 ghost use lib.Dec.{eqb};
-ghost use lib.ListN.{length};
 ghost use Rattle.bitalloc.specs.Classes.{sampleBits};
 ghost use Rattle.encoder_bit_allocator.specs.Entries.{slotRatio};
 ghost use Rattle.text_line.specs.Line.{text, textOf, cut};

@@ -6,7 +6,7 @@ use native.Mathlib.Omega.{arith}
 use mathlib.Core.Bool.{Bool, true, false, not}
 use lib.Dec.{T, leb, leb→le, nleb→lt}
 use lib.ListN.{length, take, drop, length-append, length-take, length-drop}
-use Rattle.text_line.specs.Line.{text, cut}
+use Rattle.text_line.specs.Line.{cut}
 use Rattle.text_line.specs.Number.{numberText}
 use Rattle.text_line.proofs.LineLaws.{take-min}
 use Rattle.text_line.proofs.NumberLaws.{few-digits}

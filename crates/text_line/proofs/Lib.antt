@@ -1,3 +1,4 @@
 pub mod LineLaws
 pub mod NumberLaws
 pub mod RatioLaws
+pub mod Examples

@@ -2,10 +2,10 @@
 use mathlib.Core.Path.{_≡_, refl, sym, ap, _∙_}
 use mathlib.Core.List.{List, [], _∷_, _++_, append-assoc}
 use Prim.Native.Nat.{ℕ, zero, suc, _+_, _-_, _≤_, min}
-use native.Mathlib.Nat.{le-refl, le-trans, le-of-suc-le-suc, zero-min, min-zero, suc-min-suc}
+use native.Mathlib.Nat.{le-refl, zero-min, min-zero, suc-min-suc}
 use native.Mathlib.Omega.{arith}
 use lib.ListN.{length, take, replicate, length-take, length-append, length-replicate}
-use lib.Seq.{paste, take-paste, take-nil, take-take, take-all, take-append-add, length-take-le}
+use lib.Seq.{paste, take-paste, take-nil, take-take, take-all, take-append-add}
 use Rattle.text_line.specs.Line.{cut, spaces, aligned}
 
 -- ---- parts of lists

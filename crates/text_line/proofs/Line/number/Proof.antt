@@ -1,5 +1,5 @@
 -- `text_line::Line::number` meets its contract: the fewest digits that hold a number are its digits.
-use mathlib.Core.Path.{_≡_, ap, sym, _∙_}
+use mathlib.Core.Path.{ap, _∙_}
 use mathlib.Core.List.{List, _++_}
 use Prim.Native.Nat.{ℕ, _<_, _^_}
 use borrow.Author.Needs.{needs}

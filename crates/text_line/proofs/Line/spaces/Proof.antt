@@ -1,7 +1,5 @@
 -- `text_line::Line::spaces` meets its contract.
-use mathlib.Core.Path.{_≡_, ap, sym, _∙_}
-use native.Mathlib.Omega.{arith}
-use lib.ListN.{length, replicate, length-replicate}
+use mathlib.Core.Path.{sym}
 use lib.Seq.{length-take-le}
 use borrow.Author.Needs.{needs}
 use Rattle.text_line.specs.Line.{textOf}
