@@ -8,8 +8,19 @@ pub fn run() {
     let mut words = io::buffer();
     let size = read_words(&mut words);
     let mut input = io::large_buffer();
-    let count = io::read_full(0, &mut input);
+    let count = read_ratios(&words[..size], &mut input);
     write_plan(&words[..size], &input[..count]);
+}
+
+// Reads the ratios, where the words are such that they are asked for, and answers how many bytes they take.
+fn read_ratios(words: &[u8], input: &mut [u8]) -> usize
+    ensures { λ r. ⌜ r ≤ length (now (input .entry)) ⌝ }
+{
+    if planner::wants_ratios(words) {
+        io::read_full(0, input)
+    } else {
+        0
+    }
 }
 
 // Puts the words of the command line one behind the other, each ended by a byte 0, and answers how many bytes they take; the

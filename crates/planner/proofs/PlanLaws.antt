@@ -23,7 +23,7 @@ use Rattle.text_line.specs.declared.Line.{Line}
 use Rattle.text_line.specs.Line.{textOf}
 use Rattle.planner.specs.declared.PlanLine.{PlanLine}
 use Rattle.planner.specs.Notes.{wordsLine, ratiosLine, longWordsLine, longInputLine}
-use Rattle.planner.specs.Planner.{wordsAccepted, ratiosAccepted, withRatios, withWords, planOf, LineIs}
+use Rattle.planner.specs.Planner.{wantsRatios, wordsAccepted, ratiosAccepted, withRatios, withWords, planOf, LineIs}
 
 -- the same page
 pub moved : {page other : List (List ℕ)} {n : ℕ} {r : PlanLine} → page ≡ other → LineIs page n r → LineIs other n r
@@ -82,3 +82,9 @@ module _ (words input : List ℕ) where
   pub read : (w : Words) → length words < 4096 → length input < 65_536 → w ≡ wordsOf words → withWords words w input ≡ planOf words input
   unfolding planOf
   read w l h e = rw (lt-leb 4096 (length words) l, lt-leb 65_536 (length input) h) (ap (λ (x : Words). withWords words x input) e)
+
+-- ---- whether ratios are asked for
+
+pub wants : (words : List ℕ) (w : Words) (a : WordsAnswer) → w ≡ wordsOf words → w .answer ≡ a → wordsAccepted a ≡ wantsRatios words
+unfolding wantsRatios
+wants words w a e q = ap wordsAccepted (sym q) ∙ ap (λ (w : Words). wordsAccepted (w .answer)) e

@@ -48,6 +48,10 @@ withWords words w input =
     (withRatios (w .header) (w .banc) (ratiosOf (channelsOf (w .header .mode)) input))
     (wordsLine words (w .answer) (w .at) (w .end) ∷ [])
 
+-- words that are not accepted are told without asking for ratios
+unfoldable pub wantsRatios : List ℕ → Bool
+wantsRatios words = wordsAccepted (wordsOf words .answer)
+
 -- the whole answer, line by line
 unfoldable pub planOf : List ℕ → List ℕ → List (List ℕ)
 planOf words input =

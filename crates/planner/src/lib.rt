@@ -6,7 +6,7 @@ ghost use mathlib.Core.List.{[], _∷_};
 ghost use Rattle.plan_ratios.specs.Ratios.{slotsOf};
 ghost use Rattle.plan_page.specs.Page.{pageOf};
 ghost use Rattle.text_line.specs.Line.{textOf};
-ghost use Rattle.planner.specs.Planner.{withRatios, withWords, planOf, LineIs};
+ghost use Rattle.planner.specs.Planner.{withRatios, withWords, wantsRatios, planOf, LineIs};
 use header::FrameHeader;
 use plan_ratios::Ratios;
 use plan_ratios::RatiosAnswer;
@@ -18,6 +18,21 @@ use text_line::Line;
 pub struct PlanLine {
     pub there: bool,
     pub line: Line,
+}
+
+// Whether the words are accepted, so that ratios are asked for.
+pub fn wants_ratios(words: &[u8]) -> bool
+    ensures { λ r. ⌜ r ≡ wantsRatios (now (words .entry)) ⌝ }
+{
+    let read = plan_words::read_words(words);
+    let answer = read.answer;
+    match answer {
+        WordsAnswer::Accepted => true,
+        WordsAnswer::Unknown => false,
+        WordsAnswer::Twice => false,
+        WordsAnswer::NoSampleRate => false,
+        WordsAnswer::NoBitRate => false,
+    }
 }
 
 // The line of a number, counted from 0. The words are each ended by a byte 0.

@@ -1,16 +1,9 @@
--- `plan_io::run` meets its contract.
+-- `plan_io::run` meets its contract: what was read lies within the buffers.
 use mathlib.Core.Path.{sym}
 use lib.Seq.{length-take-le}
 use borrow.Author.Needs.{needs}
 use Rattle.plan_io.proofs.run.Statement.{statement}
 use Rattle.plan_io.proofs.run.Tie as tie
-use Rattle.plan_io.proofs.run.Reads as reads
-use Rattle.plan_io.proofs.run.Lts as lts
-use Rattle.io.proofs.buffer.Reads as buffer-reads
-use Rattle.io.proofs.large_buffer.Reads as large-buffer-reads
-use Rattle.io.proofs.read_full.Reads as read-full-reads
-use Rattle.plan_io.proofs.read_words.Reads as read-words-reads
-use Rattle.plan_io.proofs.write_plan.Reads as write-plan-reads
 
 buffer-requires : tie.Need-buffer-requires
 buffer-requires c κs = search needs
@@ -24,25 +17,35 @@ read-words-requires c κs = search needs
 large-buffer-requires : tie.Need-large-buffer-requires
 large-buffer-requires c κs = search needs
 
-slice-aggregate-read-full : tie.Need-slice-aggregate-read-full
-slice-aggregate-read-full c = search needs
-
-read-full-requires : tie.Need-read-full-requires
-read-full-requires c κs = search needs
-
 array-share-prefix-words : tie.Need-array-share-prefix-words
 array-share-prefix-words c = search needs
 
+slice-aggregate-read-ratios : tie.Need-slice-aggregate-read-ratios
+slice-aggregate-read-ratios c =
+    let r = c .before .before .before in
+    sym (length-take-le _ (r .read-words .last .0) (search needs))
+
+slice-aggregate-read-ratios-2 : tie.Need-slice-aggregate-read-ratios-2
+slice-aggregate-read-ratios-2 c = search needs
+
+read-ratios-requires : tie.Need-read-ratios-requires
+read-ratios-requires c κs = search needs
+
+array-share-prefix-words-2 : tie.Need-array-share-prefix-words-2
+array-share-prefix-words-2 c = search needs
+
 slice-aggregate-write-plan : tie.Need-slice-aggregate-write-plan
 slice-aggregate-write-plan c =
-    let r = c .before .before .before .before .before .before in
+    let r = c .before .before .before .before .before .before .before in
     sym (length-take-le _ (r .read-words .last .0) (search needs))
 
 array-share-prefix-input : tie.Need-array-share-prefix-input
 array-share-prefix-input c = search needs
 
 slice-aggregate-write-plan-2 : tie.Need-slice-aggregate-write-plan-2
-slice-aggregate-write-plan-2 c = search needs
+slice-aggregate-write-plan-2 c =
+    let r = c .before .before .before in
+    sym (length-take-le _ (r .read-ratios .last .1 .0) (search needs))
 
 write-plan-requires : tie.Need-write-plan-requires
 write-plan-requires c κs = search needs
@@ -58,9 +61,11 @@ run-spec =
     slice-aggregate-read-words
     read-words-requires
     large-buffer-requires
-    slice-aggregate-read-full
-    read-full-requires
     array-share-prefix-words
+    slice-aggregate-read-ratios
+    slice-aggregate-read-ratios-2
+    read-ratios-requires
+    array-share-prefix-words-2
     slice-aggregate-write-plan
     array-share-prefix-input
     slice-aggregate-write-plan-2
