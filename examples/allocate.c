@@ -23,6 +23,7 @@ struct header {
 /* The seven arguments of a header, in their order. */
 #define HEADER(h) (h).lsf, (h).bit_rate, (h).sample_rate, (h).padding, (h).protection_bit, (h).mode, (h).mode_extension
 
+/* By table number. */
 static const char *const table_names[] = {"3-B.2a", "3-B.2b", "3-B.2c", "3-B.2d", "B.1 (LSF)"};
 
 static const char *answer_text(uint32_t number)
