@@ -1,10 +1,8 @@
--- `c_answers::arguments::header_given` meets its contract.
+-- `c_answers::arguments::header_given` meets its contract: the arguments are in range, or one is not.
 use borrow.Author.Needs.{needs}
 use Rattle.c_answers.proofs.ArgumentLaws.{in-range, out-of-range}
 use Rattle.c_answers.proofs.arguments.header_given.Statement.{statement}
 use Rattle.c_answers.proofs.arguments.header_given.Tie as tie
-use Rattle.c_answers.proofs.arguments.header_given.Reads as reads
-use Rattle.c_answers.proofs.arguments.header_given.Lts as lts
 
 returns : tie.Need-returns
 returns c = search needs

@@ -41,10 +41,11 @@ same-length c = search needs
 returns-2 : tie.Need-returns-2
 returns-2 c =
     let k = c .before .before in
-    one-by _ _ _ _ _ _ (header-meant _ _ _ (k .before .before .before .header-given .ensures) (k .before .given2 .given .1))
+    let m = header-meant _ _ _ (k .before .before .before .header-given .ensures) (k .before .given2 .given .1) in
+    one-by _ _ _ _ _ _ m
     (ap (λ (z : ℤ). reply (c .before .available-data-bits .result .number) (z ∷ [])) (toZ-ofZ {w = w64} {z = c .offered-bits .result} (record { sfits = c .offered-bits .ok }) ∙ c .offered-bits .ensures)
     ∙ ap (λ a. reply (a .number) (a .bits ∷ [])) (c .before .available-data-bits .ensures))
-    (ltb-false _ _ (room _ _ _ (header-meant _ _ _ (k .before .before .before .header-given .ensures) (k .before .given2 .given .1))))
+    (ltb-false _ _ (room _ _ _ m))
 
 pub folgrist-available-data-bits-spec : {M : Type 1} → statement M
 folgrist-available-data-bits-spec =

@@ -29,7 +29,8 @@ slice-write-out : tie.Need-slice-write-out
 slice-write-out c =
     let k = c .before .before in
     let s = k .before .before .before .before .before .before in
-    both-long (length (s .args .smr-db .now)) 64 (length (s .args .out .now)) 1 (room _ _ _ (header-meant _ _ _ (k .before .before .before .header-given .ensures) (k .before .given2 .given .1))) .1
+    let m = header-meant _ _ _ (k .before .before .before .header-given .ensures) (k .before .given2 .given .1) in
+    both-long (length (s .args .smr-db .now)) 64 (length (s .args .out .now)) 1 (room _ _ _ m) .1
 
 returns : tie.Need-returns
 returns c = refused-by _ _ _ _ (header-refused _ _ _ (c .before .before .before .header-given .ensures) (c .before .given .given .1))
@@ -41,9 +42,10 @@ returns-2 : tie.Need-returns-2
 returns-2 c =
     let k = c .before .before in
     let s = k .before .before .before .before .before .before in
-    one-by _ _ _ _ _ _ (header-meant _ _ _ (k .before .before .before .header-given .ensures) (k .before .given2 .given .1))
+    let m = header-meant _ _ _ (k .before .before .before .header-given .ensures) (k .before .given2 .given .1) in
+    one-by _ _ _ _ _ _ m
     (ap (λ a. reply (a .number) (a .bits ∷ [])) (c .demand-bits .ensures .whole ∙ ap (demandOf _) (c .before .rows .ensures)))
-    (both-long (length (s .args .smr-db .now)) 64 (length (s .args .out .now)) 1 (room _ _ _ (header-meant _ _ _ (k .before .before .before .header-given .ensures) (k .before .given2 .given .1))) .1)
+    (both-long (length (s .args .smr-db .now)) 64 (length (s .args .out .now)) 1 (room _ _ _ m) .1)
 
 pub folgrist-demand-bits-spec : {M : Type 1} → statement M
 folgrist-demand-bits-spec =

@@ -30,7 +30,8 @@ slice-aggregate-put c = search needs
 put-requires : tie.Need-put-requires
 put-requires c κs =
     let k = c .before .before .before .before in
-    rw (c .before .before .budget-values .ensures) (ltb-false _ _ (room _ _ _ (header-meant _ _ _ (k .before .before .before .header-given .ensures) (k .before .given2 .given .1))))
+    let m = header-meant _ _ _ (k .before .before .before .header-given .ensures) (k .before .given2 .given .1) in
+    rw (c .before .before .budget-values .ensures) (ltb-false _ _ (room _ _ _ m))
 
 refusal-requires : tie.Need-refusal-requires
 refusal-requires c κs = search needs
@@ -46,7 +47,8 @@ returns-2 c =
     let p = c .before .before .before in
     let v = p .before .before .before in
     let k = v .before .before in
-    meant-by _ _ _ _ (c .refusal .result) (v .budget-values .result) _ (header-meant _ _ _ (k .before .before .before .header-given .ensures) (k .before .given2 .given .1))
+    let m = header-meant _ _ _ (k .before .before .before .header-given .ensures) (k .before .given2 .given .1) in
+    meant-by _ _ _ _ (c .refusal .result) (v .budget-values .result) _ m
     (rw (c .refusal .ensures, v .budget-values .ensures) (ap (λ a. reply (a .answer) (budgetValues (a .budget))) (v .before .fixed-bit-budget .ensures .whole)))
     (p .put .ensures)
 

@@ -46,7 +46,8 @@ returns-2 c =
 returns-3 : tie.Need-returns-3
 returns-3 c =
     let k = c .before .before .before in
-    meant-by _ _ _ _ _ _ _ (table-meant _ _ _ (k .before .before .before .table-given .ensures) (k .before .given2 .given .1)) (found-none _ _ (c .before .before .allocation-index .ensures .whole) (c .enum-told .given .1)) refl
+    let m = table-meant _ _ _ (k .before .before .before .table-given .ensures) (k .before .given2 .given .1) in
+    meant-by _ _ _ _ _ _ _ m (found-none _ _ (c .before .before .allocation-index .ensures .whole) (c .enum-told .given .1)) refl
 
 pub folgrist-allocation-index-spec : {M : Type 1} → statement M
 folgrist-allocation-index-spec =

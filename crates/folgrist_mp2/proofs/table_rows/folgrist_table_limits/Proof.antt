@@ -26,7 +26,8 @@ slice-aggregate-put c = search needs
 put-requires : tie.Need-put-requires
 put-requires c κs =
     let k = c .before .before .before in
-    rw (c .before .before .limits .ensures) (ltb-false _ _ (room _ _ _ (table-meant _ _ _ (k .before .before .before .table-given .ensures) (k .before .given2 .given .1))))
+    let m = table-meant _ _ _ (k .before .before .before .table-given .ensures) (k .before .given2 .given .1) in
+    rw (c .before .before .limits .ensures) (ltb-false _ _ (room _ _ _ m))
 
 returns : tie.Need-returns
 returns c = refused-by _ _ _ _ (table-refused _ _ _ (c .before .before .before .table-given .ensures) (c .before .given .given .1))
@@ -39,7 +40,8 @@ returns-2 c =
     let p = c .before .before in
     let l = p .before .before .before in
     let k = l .before in
-    meant-by _ _ _ _ 0 (l .limits .result) _ (table-meant _ _ _ (k .before .before .before .table-given .ensures) (k .before .given2 .given .1)) (ap (reply 0) (l .limits .ensures)) (p .put .ensures)
+    let m = table-meant _ _ _ (k .before .before .before .table-given .ensures) (k .before .given2 .given .1) in
+    meant-by _ _ _ _ 0 (l .limits .result) _ m (ap (reply 0) (l .limits .ensures)) (p .put .ensures)
 
 pub folgrist-table-limits-spec : {M : Type 1} → statement M
 folgrist-table-limits-spec =
