@@ -24,6 +24,11 @@ use Rattle.plan_page.specs.Page.{BudgetHeld, offeredOf, headOf, footOf, 
 
 -- ---- the two pages
 
+-- behind a line that stands alone
+behind-last : (line : List ℕ) (n : ℕ) → (n ≡ 0 → ⊥) → [] ≡ getD (line ∷ []) n []
+behind-last line zero a = absurd (a refl)
+behind-last line (suc n) a = refl
+
 module _ (free : Bool) (banc : ℕ) (smr : List (List Float)) (b : FixedBitBudget) (demand : ℕ) (a : Allocation) where
   opened-accepted : a .number ≡ 0 → pageBy free banc smr b demand a ≡ acceptedPage b (offeredOf b banc) demand (a .audio .«nb_steps») (a .left) smr
   unfolding pageBy
@@ -48,6 +53,25 @@ module _ (h : FrameHeader) (banc : ℕ) (smr : List (List Float)) (a : Allocatio
 
   pub page-refused : (a .number ≡ 0 → ⊥) → pageOf h banc smr ≡ refusalLine (freeFormat h) (a .number) (a .cb) (a .fixed) (a .banc) ∷ []
   page-refused z = by ∙ opened-refused (freeFormat h) banc smr (budgetOf h .budget) (demandOf h smr .bits) a z
+
+  -- a line of the page, from what the code has for its parts
+  pub line-accepted : (b : FixedBitBudget) (demand offered n : ℕ) (t : List ℕ) → b ≡ budgetOf h .budget → demand ≡ demandOf h smr .bits → offered ≡ offeredOf b banc
+    → a .number ≡ 0 → t ≡ getD (acceptedPage b offered demand (a .audio .«nb_steps») (a .left) smr) n [] → t ≡ getD (pageOf h banc smr) n []
+  line-accepted b demand offered n t q d o z e =
+      e
+      ∙ ap (λ (k : ℕ). getD (acceptedPage b k demand (a .audio .«nb_steps») (a .left) smr) n []) o
+      ∙ ap (λ (p : List (List ℕ)). getD p n []) (sym (page-accepted b demand q d z))
+
+  pub line-refused : (free : Bool) (n : ℕ) (t : List ℕ) → free ≡ freeFormat h → (a .number ≡ 0 → ⊥) → n ≡ 0
+    → t ≡ refusalLine free (a .number) (a .cb) (a .fixed) (a .banc) → t ≡ getD (pageOf h banc smr) n []
+  line-refused free n t f z k e =
+      rw k
+      (e
+      ∙ ap (λ (x : Bool). refusalLine x (a .number) (a .cb) (a .fixed) (a .banc)) f
+      ∙ ap (λ (p : List (List ℕ)). getD p 0 []) (sym (page-refused z)))
+
+  pub line-behind : (n : ℕ) (t : List ℕ) → (a .number ≡ 0 → ⊥) → (n ≡ 0 → ⊥) → t ≡ [] → t ≡ getD (pageOf h banc smr) n []
+  line-behind n t z k e = e ∙ behind-last _ n k ∙ ap (λ (p : List (List ℕ)). getD p n []) (sym (page-refused z))
 
 -- ---- where a line stands on the page of an accepted request
 
@@ -112,7 +136,3 @@ no-foot offered left zero a c = refl
 no-foot offered left (suc zero) a c = absurd (a refl)
 no-foot offered left (suc (suc zero)) a c = absurd (c refl)
 no-foot offered left (suc (suc (suc n))) a c = refl
-
-pub behind-last : (line : List ℕ) (n : ℕ) → (n ≡ 0 → ⊥) → [] ≡ getD (line ∷ []) n []
-behind-last line zero a = absurd (a refl)
-behind-last line (suc n) a = refl
