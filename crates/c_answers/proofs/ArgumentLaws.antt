@@ -18,7 +18,7 @@ use Rattle.c_answers.specs.declared.arguments.HeaderGiven.the-variants a
 use Rattle.c_answers.specs.declared.arguments.TableGiven.{TableGiven}
 use Rattle.c_answers.specs.declared.arguments.TableGiven.the-variants as Table
 use Rattle.c_answers.specs.Answers.{Meaning, refused, meant, asked}
-use Rattle.c_answers.specs.Arguments.{modeNumbered, extensionNumbered, inRange, headerIn, headerAsked, headerFrom, tableNumbered, tableAsked, tableFrom}
+use Rattle.c_answers.specs.Arguments.{modeNumbered, extensionNumbered, inRange, headerIn, headerMeant, headerFrom, tableNumbered, tableMeant, tableFrom}
 
 -- what the code's enum tells of the arguments
 pub header-refused : (g : HeaderGiven) (m : Meaning FrameHeader) (n : ℕ) → headerFrom g ≡ m → g ≡ Header.Refused n → m ≡ refused n
@@ -50,17 +50,17 @@ module _ (lsf bit-rate sample-rate padding protection mode extension : ℕ) wher
       mode = m;
       «mode_extension» = e;
       «protection_bit» = eqb protection 1
-    }) ≡ headerAsked short lsf bit-rate sample-rate padding protection mode extension
+    }) ≡ headerMeant short lsf bit-rate sample-rate padding protection mode extension
   unfolding headerIn
   in-range short m e s r p q = rw (s, r, p, q)
 
   pub out-of-range : (short : Bool) → short ≡ false → inRange lsf padding protection mode extension ≡ false
-    → refused 14 ≡ headerAsked short lsf bit-rate sample-rate padding protection mode extension
+    → refused 14 ≡ headerMeant short lsf bit-rate sample-rate padding protection mode extension
   unfolding headerIn
   out-of-range short s r = rw (s, r)
 
-pub table-at : (short : Bool) (n k : ℕ) (t : BitAllocTable) → short ≡ false → n ≡ k → tableNumbered k ≡ some t → meant t ≡ tableAsked short n
+pub table-at : (short : Bool) (n k : ℕ) (t : BitAllocTable) → short ≡ false → n ≡ k → tableNumbered k ≡ some t → meant t ≡ tableMeant short n
 table-at short n k t s e q = rw (s, e, q)
 
-pub no-table : (short : Bool) (n : ℕ) → short ≡ false → 5 ≤ n → refused 14 ≡ tableAsked short n
+pub no-table : (short : Bool) (n : ℕ) → short ≡ false → 5 ≤ n → refused 14 ≡ tableMeant short n
 no-table short n s h = rw s (ap (asked false) (sym (past (B2a ∷ B2b ∷ B2c ∷ B2d ∷ B1Lsf ∷ []) n h)))

@@ -18,11 +18,11 @@ use Rattle.c_answers.specs.declared.arguments.HeaderGiven.the-variants a
 use Rattle.c_answers.specs.declared.arguments.TableGiven.{TableGiven}
 use Rattle.c_answers.specs.declared.arguments.TableGiven.the-variants as Table
 
--- the modes 0 to 3; there is no other
+-- the modes 0 to 3, which are all that `inRange` lets through
 abbrev pub modeNumbered : ℕ → Mode
 modeNumbered n = getD (Stereo ∷ JointStereo ∷ DualChannel ∷ []) n SingleChannel
 
--- the extensions 0 to 3; there is no other
+-- the extensions 0 to 3, likewise
 abbrev pub extensionNumbered : ℕ → ModeExtension
 extensionNumbered n = getD (Bound4 ∷ Bound8 ∷ Bound12 ∷ []) n Bound16
 
@@ -57,13 +57,13 @@ headerIn lsf bit-rate sample-rate padding protection mode extension =
     none
 
 -- what a function with a header asks first: whether a slice is short, then what the seven arguments mean
-abbrev pub headerAsked : Bool → ℕ → ℕ → ℕ → ℕ → ℕ → ℕ → ℕ → Meaning FrameHeader
-headerAsked short lsf bit-rate sample-rate padding protection mode extension =
+abbrev pub headerMeant : Bool → ℕ → ℕ → ℕ → ℕ → ℕ → ℕ → ℕ → Meaning FrameHeader
+headerMeant short lsf bit-rate sample-rate padding protection mode extension =
     asked short (headerIn lsf bit-rate sample-rate padding protection mode extension)
 
 -- the same with a table
-abbrev pub tableAsked : Bool → ℕ → Meaning BitAllocTable
-tableAsked short table = asked short (tableNumbered table)
+abbrev pub tableMeant : Bool → ℕ → Meaning BitAllocTable
+tableMeant short table = asked short (tableNumbered table)
 
 -- what the code's enums stand for
 abbrev pub headerFrom : HeaderGiven → Meaning FrameHeader

@@ -1,6 +1,6 @@
 // From the numbers that C hands over to what they stand for, and the questions that every function asks first.
 ghost use mathlib.Core.Path.{_≡_};
-ghost use Rattle.c_answers.specs.Arguments.{modeNumbered, extensionNumbered, numberOf, headerAsked, headerFrom, tableAsked, tableFrom};
+ghost use Rattle.c_answers.specs.Arguments.{modeNumbered, extensionNumbered, numberOf, headerMeant, headerFrom, tableMeant, tableFrom};
 use bitalloc::BitAllocTable;
 use header::{FrameHeader, Mode, ModeExtension};
 
@@ -21,7 +21,7 @@ pub fn header_given(
     mode: u8,
     mode_extension: u8,
 ) -> HeaderGiven
-    ensures { λ r. ⌜ headerFrom r ≡ headerAsked short lsf «bit_rate» «sample_rate» padding «protection_bit» mode «mode_extension» ⌝ }
+    ensures { λ r. ⌜ headerFrom r ≡ headerMeant short lsf «bit_rate» «sample_rate» padding «protection_bit» mode «mode_extension» ⌝ }
 {
     if short {
         return HeaderGiven::Refused(98);
@@ -71,7 +71,7 @@ pub enum TableGiven {
 
 // The table of a call: 98 where a slice is short, 14 where the number means none.
 pub fn table_given(short: bool, table: u8) -> TableGiven
-    ensures { λ r. ⌜ tableFrom r ≡ tableAsked short table ⌝ }
+    ensures { λ r. ⌜ tableFrom r ≡ tableMeant short table ⌝ }
 {
     if short {
         return TableGiven::Refused(98);

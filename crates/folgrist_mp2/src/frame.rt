@@ -5,7 +5,7 @@ ghost use lib.Dec.{ltb};
 ghost use lib.ListN.{length};
 ghost use Rattle.encoder_bit_budget.specs.Budget.{budgetIn};
 ghost use Rattle.c_answers.specs.Answers.{answered, Answers};
-ghost use Rattle.c_answers.specs.Arguments.{headerAsked};
+ghost use Rattle.c_answers.specs.Arguments.{headerMeant};
 ghost use Rattle.c_answers.specs.Replies.{tableSelected, frameSized, BoundedIn, budgetValues};
 ghost use Rattle.c_answers.specs.Replies.{budgetFixed, bitsAvailable, bitsDemanded, stepsAllocated, bitsAllocated};
 use c_answers::arguments;
@@ -28,7 +28,7 @@ pub extern "C" fn folgrist_select_table(
 ) -> u32
     ensures { λ r. ⌜ Answers
         (answered
-          (headerAsked (ltb (length (now (out .entry))) 1)
+          (headerMeant (ltb (length (now (out .entry))) 1)
             lsf «bit_rate» «sample_rate» padding «protection_bit» mode «mode_extension»)
           tableSelected)
         (now (out .entry)) r (now (out .exit)) ⌝ }
@@ -59,7 +59,7 @@ pub extern "C" fn folgrist_frame_size_bytes(
 ) -> u32
     ensures { λ r. ⌜ Answers
         (answered
-          (headerAsked (ltb (length (now (out .entry))) 1)
+          (headerMeant (ltb (length (now (out .entry))) 1)
             lsf «bit_rate» «sample_rate» padding «protection_bit» mode «mode_extension»)
           frameSized)
         (now (out .entry)) r (now (out .exit)) ⌝ }
@@ -90,7 +90,7 @@ pub extern "C" fn folgrist_fixed_bit_budget(
 ) -> u32
     ensures { λ r. ⌜ Answers
         (answered
-          (headerAsked (ltb (length (now (out .entry))) 8)
+          (headerMeant (ltb (length (now (out .entry))) 8)
             lsf «bit_rate» «sample_rate» padding «protection_bit» mode «mode_extension»)
           budgetFixed)
         (now (out .entry)) r (now (out .exit)) ⌝ }
@@ -147,7 +147,7 @@ pub extern "C" fn folgrist_available_data_bits(
 ) -> u32
     ensures { λ r. ⌜ Answers
         (answered
-          (headerAsked (ltb (length (now (out .entry))) 1)
+          (headerMeant (ltb (length (now (out .entry))) 1)
             lsf «bit_rate» «sample_rate» padding «protection_bit» mode «mode_extension»)
           (bitsAvailable banc))
         (now (out .entry)) r (now (out .exit)) ⌝ }
@@ -179,7 +179,7 @@ pub extern "C" fn folgrist_demand_bits(
 ) -> u32
     ensures { λ r. ⌜ Answers
         (answered
-          (headerAsked (ltb (length (now («smr_db» .entry))) 64 || ltb (length (now (out .entry))) 1)
+          (headerMeant (ltb (length (now («smr_db» .entry))) 64 || ltb (length (now (out .entry))) 1)
             lsf «bit_rate» «sample_rate» padding «protection_bit» mode «mode_extension»)
           (bitsDemanded (now («smr_db» .entry))))
         (now (out .entry)) r (now (out .exit)) ⌝ }
@@ -213,13 +213,13 @@ pub extern "C" fn folgrist_allocate_bits(
 ) -> u32
     ensures { λ r. ⌜ Answers
         (answered
-          (headerAsked (ltb (length (now («smr_db» .entry))) 64 || (ltb (length (now (steps .entry))) 64 || ltb (length (now (out .entry))) 4))
+          (headerMeant (ltb (length (now («smr_db» .entry))) 64 || (ltb (length (now (steps .entry))) 64 || ltb (length (now (out .entry))) 4))
             lsf «bit_rate» «sample_rate» padding «protection_bit» mode «mode_extension»)
           (stepsAllocated (now («smr_db» .entry)) banc))
         (now (steps .entry)) r (now (steps .exit)) ⌝ }
     ensures { λ r. ⌜ Answers
         (answered
-          (headerAsked (ltb (length (now («smr_db» .entry))) 64 || (ltb (length (now (steps .entry))) 64 || ltb (length (now (out .entry))) 4))
+          (headerMeant (ltb (length (now («smr_db» .entry))) 64 || (ltb (length (now (steps .entry))) 64 || ltb (length (now (out .entry))) 4))
             lsf «bit_rate» «sample_rate» padding «protection_bit» mode «mode_extension»)
           (bitsAllocated (now («smr_db» .entry)) banc))
         (now (out .entry)) r (now (out .exit)) ⌝ }

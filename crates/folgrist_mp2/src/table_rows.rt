@@ -5,7 +5,7 @@ ghost use lib.Dec.{ltb};
 ghost use lib.ListN.{length};
 ghost use Rattle.bitalloc.specs.Classes.{SampleBitsAre};
 ghost use Rattle.c_answers.specs.Answers.{asked, answered, Answers};
-ghost use Rattle.c_answers.specs.Arguments.{tableAsked};
+ghost use Rattle.c_answers.specs.Arguments.{tableMeant};
 ghost use Rattle.c_answers.specs.Replies.{limitsAt, stepsFound, indexFound, coefficients, classFigures};
 use c_answers::arguments;
 use c_answers::arguments::TableGiven;
@@ -18,7 +18,7 @@ use bitalloc::OptionU32;
 pub extern "C" fn folgrist_table_limits(table: u8, sb: u64, out: &mut [u32]) -> u32
     ensures { λ r. ⌜ Answers
         (answered
-          (tableAsked (ltb (length (now (out .entry))) 2) table)
+          (tableMeant (ltb (length (now (out .entry))) 2) table)
           (limitsAt sb))
         (now (out .entry)) r (now (out .exit)) ⌝ }
 {
@@ -38,7 +38,7 @@ pub extern "C" fn folgrist_table_limits(table: u8, sb: u64, out: &mut [u32]) -> 
 pub extern "C" fn folgrist_nb_steps(table: u8, sb: u64, index: u32, out: &mut [u32]) -> u32
     ensures { λ r. ⌜ Answers
         (answered
-          (tableAsked (ltb (length (now (out .entry))) 1) table)
+          (tableMeant (ltb (length (now (out .entry))) 1) table)
           (stepsFound sb index))
         (now (out .entry)) r (now (out .exit)) ⌝ }
 {
@@ -63,7 +63,7 @@ pub extern "C" fn folgrist_nb_steps(table: u8, sb: u64, index: u32, out: &mut [u
 pub extern "C" fn folgrist_allocation_index(table: u8, sb: u64, steps: u32, out: &mut [u32]) -> u32
     ensures { λ r. ⌜ Answers
         (answered
-          (tableAsked (ltb (length (now (out .entry))) 1) table)
+          (tableMeant (ltb (length (now (out .entry))) 1) table)
           (indexFound sb steps))
         (now (out .entry)) r (now (out .exit)) ⌝ }
 {
