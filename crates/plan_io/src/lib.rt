@@ -1,15 +1,21 @@
 // The planner's reading and writing: the words of the command line, the ratios from standard input, the answer to standard output.
+ghost use mathlib.Core.Path.{_≡_};
 ghost use Prim.Native.Nat.{_≤_};
+ghost use lib.Dec.{ltb};
 ghost use lib.ListN.{length};
+ghost use Rattle.planner.specs.Planner.{planOf};
+ghost use Rattle.plan_io.specs.Written.{linesOf, Written};
 use text_line::Line;
 
-// Reads, plans and writes.
-pub fn run() {
+// Reads, plans and writes, and answers how many lines were written.
+pub fn run() -> usize
+    ensures { λ r. ⌜ Written r ⌝ }
+{
     let mut words = io::buffer();
     let size = read_words(&mut words);
     let mut input = io::large_buffer();
     let count = read_ratios(&words[..size], &mut input);
-    write_plan(&words[..size], &input[..count]);
+    write_plan(&words[..size], &input[..count])
 }
 
 // Reads the ratios, where the words are such that they are asked for, and answers how many bytes they take.
@@ -56,19 +62,26 @@ fn read_word(i: usize, words: &mut [u8], at: usize) -> usize
     }
 }
 
-// A proved loop has to end: the lines are counted up to a number that no answer has.
-fn write_plan(words: &[u8], input: &[u8]) {
+// Writes the answer line by line, and answers how many there were. A proved loop has to end: lines are counted as far as 64 bits count.
+fn write_plan(words: &[u8], input: &[u8]) -> usize
+    ensures { λ r. ⌜ r ≡ linesOf (now (words .entry)) (now (input .entry)) ⌝ }
+{
     let mut n: usize = 0;
     while n < usize::MAX {
-        if !write_line(words, input, n) {
-            break;
+        let there = write_line(words, input, n);
+        if there {
+            n = n + 1;
+        } else {
+            return n;
         }
-        n = n + 1;
     }
+    n
 }
 
 // Writes the line of a number, and answers whether there was one.
-fn write_line(words: &[u8], input: &[u8], n: usize) -> bool {
+fn write_line(words: &[u8], input: &[u8], n: usize) -> bool
+    ensures { λ r. ⌜ r ≡ ltb n (length (planOf (now (words .entry)) (now (input .entry)))) ⌝ }
+{
     let plan = planner::plan_line(words, input, n);
     if plan.there {
         let line = plan.line;

@@ -1,0 +1,16 @@
+-- What can be said of writing an answer: how many lines. No contract says which bytes a call of C's reads or writes.
+use Prim.Native.Nat.{ℕ, min}
+use mathlib.Core.Path.{_≡_}
+use mathlib.Core.List.{List}
+use lib.ListN.{length}
+use Rattle.planner.specs.Planner.{planOf}
+
+-- the lines of the answer to words and input, as far as 64 bits count
+unfoldable pub linesOf : List ℕ → List ℕ → ℕ
+linesOf words input = min (length (planOf words input)) 18_446_744_073_709_551_615
+
+-- what `run` answers: the number of lines of the answer to some words and some input
+pub record Written (r : ℕ) : Type 0 where
+  pub words : List ℕ
+  pub input : List ℕ
+  pub all : r ≡ linesOf words input
