@@ -19,7 +19,7 @@ use Rattle.encoder_bit_budget.specs.Demand.{demandOf}
 use Rattle.encoder_bit_allocator.specs.declared.Allocation.{Allocation}
 use Rattle.encoder_bit_allocator.specs.Allocation.{allocationOf}
 use Rattle.plan_page.specs.Rows.{subbandLine}
-use Rattle.plan_page.specs.Refusal.{refusalLine}
+use Rattle.plan_lines.specs.Refusal.{refusalLine}
 use Rattle.plan_page.specs.Page.{BudgetHeld, offeredOf, headOf, footOf, acceptedPage, pageBy, pageOf}
 
 -- ---- the two pages

@@ -1,4 +1,2 @@
 pub mod Rows
-pub mod Lines
-pub mod Refusal
 pub mod Page

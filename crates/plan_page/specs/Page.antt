@@ -15,8 +15,8 @@ use Rattle.encoder_bit_allocator.specs.declared.Allocation.{Allocation}
 use Rattle.encoder_bit_allocator.specs.Allocation.{allocationOf}
 use Rattle.text_line.specs.Line.{text}
 use Rattle.plan_page.specs.Rows.{headingLine, subbandLine}
-use Rattle.plan_page.specs.Lines.{frameLine, bitsLine, demandLine}
-use Rattle.plan_page.specs.Refusal.{refusalLine}
+use Rattle.plan_lines.specs.Lines.{frameLine, bitsLine, demandLine}
+use Rattle.plan_lines.specs.Refusal.{refusalLine}
 
 -- what the frame leaves for scalefactors and samples; 0 where it leaves less than nothing, which is refused
 abbrev pub offeredOf : FixedBitBudget → ℕ → ℕ

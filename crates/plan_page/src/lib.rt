@@ -1,7 +1,5 @@
 // The planner's page: whether a frame carries a signal, as lines of text.
-mod lines;
 mod page;
-mod refusal;
 mod rows;
 
 pub use page::page_length;

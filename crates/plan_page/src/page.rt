@@ -6,8 +6,6 @@ ghost use lib.ListN.{length, getD};
 ghost use Rattle.encoder_bit_budget.specs.Budget.{noBudget};
 ghost use Rattle.text_line.specs.Line.{textOf};
 ghost use Rattle.plan_page.specs.Page.{BudgetHeld, offeredOf, headOf, footOf, acceptedPage, pageOf};
-use crate::lines;
-use crate::refusal;
 use crate::rows;
 use bitalloc::BitAllocTable;
 use encoder_bit_budget::Budget;
@@ -40,7 +38,7 @@ pub fn page_line(header: FrameHeader, banc: u32, smr_db: [[f64; 32]; 2], n: usiz
         let steps = audio.nb_steps;
         accepted_line(b, offered_bits(b, banc), demand.bits, steps, a.left as u64, smr_db, n)
     } else if n == 0 {
-        refusal::refusal_line(header.is_free_format(), a.number, a.cb, a.fixed, a.banc)
+        plan_lines::refusal_line(header.is_free_format(), a.number, a.cb, a.fixed, a.banc)
     } else {
         Line::new()
     }
@@ -74,13 +72,13 @@ fn head_line(b: FixedBitBudget, offered: u64, demand: u64, n: usize) -> Line
     ensures { λ r. ⌜ textOf r ≡ getD (headOf b offered demand) n [] ⌝ }
 {
     if n == 0 {
-        lines::frame_line(b)
+        plan_lines::frame_line(b)
     } else if n == 1 {
-        lines::bits_line(b"fixed   ", b.fixed())
+        plan_lines::fixed_line(b.fixed())
     } else if n == 2 {
-        lines::bits_line(b"offered ", offered)
+        plan_lines::offered_line(offered)
     } else if n == 3 {
-        lines::demand_line(demand, offered)
+        plan_lines::demand_line(demand, offered)
     } else if n == 5 {
         rows::heading(b.channels)
     } else {
@@ -93,9 +91,9 @@ fn foot_line(offered: u64, left: u64, n: usize) -> Line
     ensures { λ r. ⌜ textOf r ≡ getD (footOf offered left) n [] ⌝ }
 {
     if n == 1 {
-        lines::bits_line(b"charged ", above(offered, left))
+        plan_lines::charged_line(above(offered, left))
     } else if n == 2 {
-        lines::bits_line(b"left    ", left)
+        plan_lines::left_line(left)
     } else {
         Line::new()
     }

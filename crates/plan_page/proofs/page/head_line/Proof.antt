@@ -1,7 +1,7 @@
 -- `plan_page::page::head_line` meets its contract.
 use mathlib.Core.Path.{ap, _∙_}
 use Rattle.text_line.specs.Line.{text}
-use Rattle.plan_page.specs.Lines.{bitsLine}
+use Rattle.plan_lines.specs.Lines.{bitsLine}
 use Rattle.plan_page.proofs.PageLaws.{no-head}
 use borrow.Author.Needs.{needs}
 use Rattle.plan_page.proofs.page.head_line.Statement.{statement}
@@ -10,20 +10,14 @@ use Rattle.plan_page.proofs.page.head_line.Tie as tie
 frame-line-requires : tie.Need-frame-line-requires
 frame-line-requires c κs = search needs
 
-slice-aggregate-bits-line : tie.Need-slice-aggregate-bits-line
-slice-aggregate-bits-line c = search needs
-
 fixed-requires : tie.Need-fixed-requires
 fixed-requires c κs = search needs
 
-bits-line-requires : tie.Need-bits-line-requires
-bits-line-requires c κs = search needs
+fixed-line-requires : tie.Need-fixed-line-requires
+fixed-line-requires c κs = search needs
 
-slice-aggregate-bits-line-2 : tie.Need-slice-aggregate-bits-line-2
-slice-aggregate-bits-line-2 c = search needs
-
-bits-line-requires-2 : tie.Need-bits-line-requires-2
-bits-line-requires-2 c κs = search needs
+offered-line-requires : tie.Need-offered-line-requires
+offered-line-requires c κs = search needs
 
 demand-line-requires : tie.Need-demand-line-requires
 demand-line-requires c κs = search needs
@@ -38,10 +32,10 @@ returns : tie.Need-returns
 returns c = rw (c .before .if1 .taken) (c .frame-line .ensures)
 
 returns-2 : tie.Need-returns-2
-returns-2 c = rw (c .before .before .before .if2 .taken) (c .bits-line .ensures ∙ ap (bitsLine (text "fixed   ")) (c .before .fixed .ensures))
+returns-2 c = rw (c .before .before .if2 .taken) (c .fixed-line .ensures ∙ ap (bitsLine (text "fixed   ")) (c .before .fixed .ensures))
 
 returns-3 : tie.Need-returns-3
-returns-3 c = rw (c .before .before .if3 .taken) (c .bits-line2 .ensures)
+returns-3 c = rw (c .before .if3 .taken) (c .offered-line .ensures)
 
 returns-4 : tie.Need-returns-4
 returns-4 c = rw (c .before .if4 .taken) (c .demand-line .ensures)
@@ -59,11 +53,9 @@ head-line-spec =
     tie.close
     (tie.spec
     frame-line-requires
-    slice-aggregate-bits-line
     fixed-requires
-    bits-line-requires
-    slice-aggregate-bits-line-2
-    bits-line-requires-2
+    fixed-line-requires
+    offered-line-requires
     demand-line-requires
     heading-requires
     new-requires

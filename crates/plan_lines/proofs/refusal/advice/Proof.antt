@@ -1,0 +1,33 @@
+-- `plan_lines::refusal::advice` meets its contract.
+use borrow.Author.Needs.{needs}
+use Rattle.plan_lines.proofs.refusal.advice.Statement.{statement}
+use Rattle.plan_lines.proofs.refusal.advice.Tie as tie
+
+slice-aggregate-text : tie.Need-slice-aggregate-text
+slice-aggregate-text c = search needs
+
+text-requires : tie.Need-text-requires
+text-requires c κs = search needs
+
+slice-aggregate-text-2 : tie.Need-slice-aggregate-text-2
+slice-aggregate-text-2 c = search needs
+
+text-requires-2 : tie.Need-text-requires-2
+text-requires-2 c κs = search needs
+
+returns : tie.Need-returns
+returns c = rw (c .before .before .if1 .taken) (c .text .ensures)
+
+returns-2 : tie.Need-returns-2
+returns-2 c = rw (c .before .before .if1 .left) (c .text2 .ensures)
+
+pub advice-spec : {M : Type 1} → statement M
+advice-spec =
+    tie.close
+    (tie.spec
+    slice-aggregate-text
+    text-requires
+    slice-aggregate-text-2
+    text-requires-2
+    returns
+    returns-2)
