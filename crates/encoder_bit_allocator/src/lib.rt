@@ -62,7 +62,7 @@ fn field_numbered(bound: usize, channels: usize, number: usize) -> AllocationFie
 }
 
 // A slot's mask-to-noise ratio with these steps.
-fn slot_ratio(nb_steps: u32, smr: f64) -> f64
+pub fn slot_ratio(nb_steps: u32, smr: f64) -> f64
     ensures { λ r. ⌜ r ≡ slotRatio «nb_steps» smr ⌝ }
 {
     if nb_steps == 0 {

@@ -68,7 +68,7 @@ fn clamp(last: u32, half: u32, value: f64) -> u32
 }
 
 // The whole number nearest to `x`, halves up, at most 2^32; 0 where `x` is negative or NaN.
-fn nearest_whole(x: f64) -> u64
+pub fn nearest_whole(x: f64) -> u64
     ensures { λ r. ⌜ (r ≡ clamped (2 ^ 32) 0 x) × (r ≤ 2 ^ 32) ⌝ }
 {
     if x > 0.0 {

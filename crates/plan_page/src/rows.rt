@@ -5,11 +5,9 @@ ghost use mathlib.Core.Bool.{cond};
 ghost use Prim.Native.Nat.{_+_, _≤_, _<_};
 ghost use lib.Dec.{eqb};
 ghost use Rattle.bitalloc.specs.Classes.{sampleBits};
-ghost use Rattle.encoder_bit_allocator.specs.Entries.{slotRatio};
 ghost use Rattle.text_line.specs.Line.{text, textOf, cut};
 ghost use Rattle.plan_page.specs.Rows.{headingLine, slotColumns, subbandBits, subbandLine};
 use encoder_bit_budget::FixedBitBudget;
-use encoder_bit_budget::OptionF64;
 use text_line::Line;
 
 pub fn heading(channels: usize) -> Line
@@ -48,22 +46,8 @@ pub fn subband_line(b: FixedBitBudget, steps: [u32; 64], smr_db: [[f64; 32]; 2],
 fn slot_columns(line: Line, smr: f64, nb_steps: u32) -> Line
     ensures { λ r. ⌜ textOf r ≡ cut (textOf line ++ slotColumns smr «nb_steps») ⌝ }
 {
-    let left = slot_ratio(nb_steps, smr);
+    let left = encoder_bit_allocator::slot_ratio(nb_steps, smr);
     line.ratio_in(10, smr).number_in(7, nb_steps as u64).ratio_in(10, left).text(b" |")
-}
-
-// A slot's mask-to-noise ratio with these steps.
-fn slot_ratio(nb_steps: u32, smr: f64) -> f64
-    ensures { λ r. ⌜ r ≡ slotRatio «nb_steps» smr ⌝ }
-{
-    if nb_steps == 0 {
-        return -smr;
-    }
-    let snr = encoder_bit_budget::snr_db(nb_steps);
-    let OptionF64::Some(db) = snr else {
-        return 0.0 / 0.0;
-    };
-    db - smr
 }
 
 // The bits charged for the fields of a subband.

@@ -6,7 +6,6 @@ ghost use mathlib.Core.List.{[], _++_};
 ghost use Prim.Native.Nat.{_+_, _-_, _^_, _≤_, min};
 ghost use lib.ListN.{length};
 ghost use lib.Seq.{paste};
-ghost use Rattle.encoder_samples.specs.Samples.{clamped};
 ghost use Rattle.text_line.specs.Line.{text, textOf, cut, spaces, aligned};
 ghost use Rattle.text_line.specs.Number.{numberText};
 ghost use Rattle.text_line.specs.Ratio.{minusText, hundredthsOf, hundredthsText, finiteText, ratioText};
@@ -182,22 +181,5 @@ fn above(a: usize, b: usize) -> usize
 fn hundredths(magnitude: f64) -> u64
     ensures { λ r. ⌜ (r ≡ hundredthsOf magnitude) × (r ≤ 2 ^ 32) ⌝ }
 {
-    nearest_whole(magnitude * 100.0)
-}
-
-// The whole number nearest to `x`, halves up, at most 2^32; 0 where `x` is negative or NaN.
-fn nearest_whole(x: f64) -> u64
-    ensures { λ r. ⌜ (r ≡ clamped (2 ^ 32) 0 x) × (r ≤ 2 ^ 32) ⌝ }
-{
-    if x > 0.0 {
-        if x < 4294967296.0 {
-            // doubling is exact
-            let halves = std::num::truncating_f64_to_u64(x * 2.0);
-            (halves + 1) / 2
-        } else {
-            4_294_967_296
-        }
-    } else {
-        0
-    }
+    encoder_samples::nearest_whole(magnitude * 100.0)
 }
