@@ -1,5 +1,5 @@
 #!/usr/bin/env bash
-# Proves and builds the planner where that is still to be done, and runs it: bash plan.sh fs=48000 rate=192000 < examples/joint.txt
+# Proves and builds the planner where that is still to be done, and runs it: bash plan.sh fs=48000 rate=192000 mode=single < examples/tone.txt
 set -eu
 here=$(cd "$(dirname "$0")" && pwd)
 command -v rt >/dev/null || { echo "rt of the Rattle kit is not on the PATH" >&2; exit 1; }

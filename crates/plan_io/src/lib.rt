@@ -7,7 +7,7 @@ ghost use Rattle.planner.specs.Planner.{planOf};
 ghost use Rattle.plan_io.specs.Written.{linesOf, Written};
 use text_line::Line;
 
-// Reads, plans and writes, and answers how many lines were written.
+// Reads, plans and writes, and answers how many lines the answer has.
 pub fn run() -> usize
     ensures { λ r. ⌜ Written r ⌝ }
 {

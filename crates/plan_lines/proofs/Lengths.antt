@@ -13,7 +13,7 @@ use Rattle.text_line.specs.Number.{numberText}
 use Rattle.text_line.proofs.LineLaws.{column-length}
 use Rattle.text_line.proofs.NumberLaws.{few-digits}
 use Rattle.plan_lines.specs.Lines.{tableText, limitsText, frameLine, bitsLine, balanceText, demandLine}
-use Rattle.plan_lines.specs.Refusal.{noTableText, tooSmallText, adviceText, reasonText, refusalLine}
+use Rattle.plan_lines.specs.Refusal.{noTableText, tooSmallText, adviceText, reasonText, refusalLine, noSampleRateText, tooLargeText}
 
 number : (n : ℕ) → length (numberText n) ≤ 20
 number n = few-digits 20 n
@@ -55,16 +55,16 @@ demand-length demand offered =
 
 -- ---- the refusals
 
-advice : (free : Bool) → length (adviceText free) ≤ 60
+advice : (free : Bool) → length (adviceText free) ≤ 80
 advice true = omega arith
 advice false = omega arith
 
-reason : (free : Bool) (n cb fixed banc : ℕ) → length (reasonText free n cb fixed banc) ≤ 210
+reason : (free : Bool) (n cb fixed banc : ℕ) → length (reasonText free n cb fixed banc) ≤ 226
 unfolding noTableText tooSmallText
 reason free n cb fixed banc = go (eqb n 1) (eqb n 2) (eqb n 3) (advice free)
   where
-    go : (one two three : Bool) → length (adviceText free) ≤ 60 → length (cond one noTableText (cond two (text "the sample rate is 0: say fs=48000 or another.")
-        (cond three (text "the frame is over 536870911 bytes: lower rate.") (tooSmallText cb fixed banc ++ adviceText free)))) ≤ 210
+    go : (one two three : Bool) → length (adviceText free) ≤ 80 → length (cond one noTableText (cond two noSampleRateText
+        (cond three tooLargeText (tooSmallText cb fixed banc ++ adviceText free)))) ≤ 226
     go true two three h = omega arith
     go false true three h = omega arith
     go false false true h = omega arith

@@ -9,15 +9,15 @@ use Rattle.text_line.specs.Number.{numberText}
 -- 1: no table is selected
 unfoldable pub noTableText : List ℕ
 noTableText =
-    text "no allocation table has this bit rate, mode and sample rate: at 32000, 44100 and 48000 Hz "
-    ++ text "give 32, 48, 56, 64, 80, 96, 112, 128, 160 or 192 kbit/s for each channel; at 16000, 22050 and 24000 Hz say lsf=1."
+    text "no allocation table for this rate, mode and fs: at 32000, 44100 and 48000 Hz "
+    ++ text "give 32000, 48000, 56000, 64000, 80000, 96000, 112000, 128000, 160000 or 192000 bit/s for each channel; at 16000, 22050 and 24000 Hz say lsf=1."
 
 -- 2 and 3
 abbrev pub noSampleRateText : List ℕ
-noSampleRateText = text "the sample rate is 0: say fs=48000 or another."
+noSampleRateText = text "the sample rate is 0: say fs=24000 or another in Hz."
 
 abbrev pub tooLargeText : List ℕ
-tooLargeText = text "the frame is over 536870911 bytes: lower rate."
+tooLargeText = text "the frame is over 536870911 bytes: lower rate or raise fs."
 
 -- 4: what is fixed and the ancillary bits are more than the frame has
 unfoldable pub tooSmallText : ℕ → ℕ → ℕ → List ℕ
@@ -26,7 +26,7 @@ tooSmallText cb fixed banc =
 
 -- in free format the frame's size is the encoder's own
 abbrev pub adviceText : Bool → List ℕ
-adviceText free = cond free (text "rate=0 is free format, whose frame size is not known here.") (text "raise rate or lower ancillary.")
+adviceText free = cond free (text "rate=0 is free format, whose frame size is not known here: give a rate.") (text "raise rate or lower ancillary.")
 
 -- the sentence of an answer's number
 abbrev pub reasonText : Bool → ℕ → ℕ → ℕ → ℕ → List ℕ

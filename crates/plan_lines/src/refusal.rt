@@ -29,20 +29,20 @@ fn reason(line: Line, free: bool, number: u32, cb: u32, fixed: u32, banc: u32) -
 fn no_table(line: Line) -> Line
     ensures { λ r. ⌜ textOf r ≡ cut (textOf line ++ noTableText) ⌝ }
 {
-    let asked = line.text(b"no allocation table has this bit rate, mode and sample rate: at 32000, 44100 and 48000 Hz ");
-    asked.text(b"give 32, 48, 56, 64, 80, 96, 112, 128, 160 or 192 kbit/s for each channel; at 16000, 22050 and 24000 Hz say lsf=1.")
+    let asked = line.text(b"no allocation table for this rate, mode and fs: at 32000, 44100 and 48000 Hz ");
+    asked.text(b"give 32000, 48000, 56000, 64000, 80000, 96000, 112000, 128000, 160000 or 192000 bit/s for each channel; at 16000, 22050 and 24000 Hz say lsf=1.")
 }
 
 fn no_sample_rate(line: Line) -> Line
     ensures { λ r. ⌜ textOf r ≡ cut (textOf line ++ noSampleRateText) ⌝ }
 {
-    line.text(b"the sample rate is 0: say fs=48000 or another.")
+    line.text(b"the sample rate is 0: say fs=24000 or another in Hz.")
 }
 
 fn too_large(line: Line) -> Line
     ensures { λ r. ⌜ textOf r ≡ cut (textOf line ++ tooLargeText) ⌝ }
 {
-    line.text(b"the frame is over 536870911 bytes: lower rate.")
+    line.text(b"the frame is over 536870911 bytes: lower rate or raise fs.")
 }
 
 fn too_small(line: Line, cb: u32, fixed: u32, banc: u32) -> Line
@@ -56,7 +56,7 @@ fn advice(line: Line, free: bool) -> Line
     ensures { λ r. ⌜ textOf r ≡ cut (textOf line ++ adviceText free) ⌝ }
 {
     if free {
-        line.text(b"rate=0 is free format, whose frame size is not known here.")
+        line.text(b"rate=0 is free format, whose frame size is not known here: give a rate.")
     } else {
         line.text(b"raise rate or lower ancillary.")
     }

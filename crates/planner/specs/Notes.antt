@@ -16,10 +16,10 @@ excerpt words at end = take (min (end - at) 80) (drop at words)
 unfoldable pub unknownText : List ℕ → ℕ → ℕ → List ℕ
 unknownText words at end =
     text "cannot read '" ++ excerpt words at end
-    ++ text "': say fs=, rate= or ancillary= with a number, mode=stereo, joint, dual or single, bound=4, 8, 12 or 16, lsf=, padding= or crc= with 0 or 1."
+    ++ text "': say fs=, rate= or ancillary= with a whole number; mode=stereo, joint, dual or single; bound=4, 8, 12 or 16; lsf=, padding= or crc= with 0 or 1."
 
 unfoldable pub twiceText : List ℕ → ℕ → ℕ → List ℕ
-twiceText words at end = text "given twice: '" ++ excerpt words at end ++ text "'."
+twiceText words at end = text "set twice, the second time by '" ++ excerpt words at end ++ text "'."
 
 -- of words that are not accepted
 abbrev pub wordsLine : List ℕ → WordsAnswer → ℕ → ℕ → List ℕ
@@ -34,14 +34,14 @@ unfoldable pub onLine : ℕ → List ℕ
 onLine line = text "line " ++ numberText line
 
 unfoldable pub cannotReadText : ℕ → List ℕ
-cannotReadText line = onLine line ++ text ": not a ratio in decibels, such as 12.5, -3, inf or nan."
+cannotReadText line = onLine line ++ text ": not a ratio: say decibels with at most 15 digits and no exponent, such as 12.5 or -3, or inf, -inf or nan."
 
 unfoldable pub tooManyText : ℕ → ℕ → List ℕ
 tooManyText line slots = onLine line ++ text ": more ratios than the " ++ numberText slots ++ text " of this mode."
 
 unfoldable pub tooFewText : ℕ → ℕ → ℕ → List ℕ
 tooFewText line count slots =
-    onLine line ++ text ": the input ends after " ++ numberText count ++ text " ratios of " ++ numberText slots ++ text "."
+    onLine line ++ text ": the input ends with " ++ numberText count ++ text " of " ++ numberText slots ++ text " ratios."
 
 -- of ratios that are not accepted: the line of the input, the ratios before, and how many the mode has
 abbrev pub ratiosLine : RatiosAnswer → ℕ → ℕ → ℕ → List ℕ

@@ -10,13 +10,13 @@ pub fn unknown_word(words: &[u8], at: usize, end: usize) -> Line
     ensures { λ r. ⌜ textOf r ≡ unknownText (now (words .entry)) at end ⌝ }
 {
     let line = with_excerpt(Line::new().text(b"cannot read '"), words, at, end);
-    line.text(b"': say fs=, rate= or ancillary= with a number, mode=stereo, joint, dual or single, bound=4, 8, 12 or 16, lsf=, padding= or crc= with 0 or 1.")
+    line.text(b"': say fs=, rate= or ancillary= with a whole number; mode=stereo, joint, dual or single; bound=4, 8, 12 or 16; lsf=, padding= or crc= with 0 or 1.")
 }
 
 pub fn twice_word(words: &[u8], at: usize, end: usize) -> Line
     ensures { λ r. ⌜ textOf r ≡ twiceText (now (words .entry)) at end ⌝ }
 {
-    with_excerpt(Line::new().text(b"given twice: '"), words, at, end).text(b"'.")
+    with_excerpt(Line::new().text(b"set twice, the second time by '"), words, at, end).text(b"'.")
 }
 
 // A word behind a line; of a long one the first 80 bytes.
@@ -51,7 +51,7 @@ pub fn no_bit_rate() -> Line
 pub fn cannot_read(line: u64) -> Line
     ensures { λ r. ⌜ textOf r ≡ cannotReadText line ⌝ }
 {
-    on_line(line).text(b": not a ratio in decibels, such as 12.5, -3, inf or nan.")
+    on_line(line).text(b": not a ratio: say decibels with at most 15 digits and no exponent, such as 12.5 or -3, or inf, -inf or nan.")
 }
 
 pub fn too_many(line: u64, slots: u64) -> Line
@@ -63,8 +63,8 @@ pub fn too_many(line: u64, slots: u64) -> Line
 pub fn too_few(line: u64, count: u64, slots: u64) -> Line
     ensures { λ r. ⌜ textOf r ≡ tooFewText line count slots ⌝ }
 {
-    let ends = on_line(line).text(b": the input ends after ").number(count);
-    ends.text(b" ratios of ").number(slots).text(b".")
+    let ends = on_line(line).text(b": the input ends with ").number(count);
+    ends.text(b" of ").number(slots).text(b" ratios.")
 }
 
 // The line of the input that a note is about.
