@@ -13,10 +13,10 @@ use Rattle.allocation_rounds.specs.declared.Candidate.the-variants.{Nobo
 use Rattle.allocation_rounds.specs.declared.Run.{Run}
 use Rattle.allocation_rounds.specs.Rounds.{Rules, price, placeIn, waits, consider, best, candidate, raiseAt, taken, round, ended, takenBy}
 use Rattle.allocation_rounds.specs.Lent.{lent}
-use Rattle.allocation_rounds.specs.Answers.{BestIs, Onward}
+use Rattle.allocation_rounds.specs.Answers.{BestIs, Onward, Finished}
 use Rattle.allocation_rounds.proofs.Fields.{either}
 use Rattle.allocation_rounds.proofs.Scan.{PickedIn, picked-open, picked, open-below}
-use Rattle.allocation_rounds.proofs.Ending.{roomIn, raise-here, raise-else, taken-falls, taken-length, round-nobody, round-taken, round-keeps, ended-nobody, ended-taken, ended-keeps}
+use Rattle.allocation_rounds.proofs.Ending.{roomIn, raise-here, raise-else, taken-falls, taken-length, round-nobody, round-taken, round-keeps, ended-nobody, ended-taken, ended-repeated, ended-keeps}
 
 -- ---- the scan
 
@@ -103,9 +103,13 @@ module _ (fields : ℕ) (tops : List ℕ) (ratios : List Float) (charges : List 
   step-over e = onward-round rules capped s fits s (sym (round-nobody rules s (is-candidate Nobody e)))
 
   -- a loop of rounds from s₀ has come to s
-  pub loop-over : (s₀ : Run) → length (s₀ .places) ≡ 64 → ended rules s ≡ ended rules s₀ → c ≡ Nobody → Onward s₀ (ended rules s₀) s
+  pub loop-over : (s₀ : Run) → length (s₀ .places) ≡ 64 → ended rules s ≡ ended rules s₀ → c ≡ Nobody → Finished rules s₀ s
   loop-over s₀ l same e =
-      onward-ended rules capped s₀ (omega arith) s (sym (ended-nobody rules s (is-candidate Nobody e)) ∙ same)
+      let whole : s ≡ ended rules s₀ = sym (ended-nobody rules s (is-candidate Nobody e)) ∙ same in
+      record {
+        onward = onward-ended rules capped s₀ (omega arith) s whole;
+        steps = λ k h. whole ∙ ended-repeated rules s₀ (omega arith) k h
+      }
 
   -- the candidate has had its turn, at its price
   module _ (f : ℕ) (q : Float) (e : c ≡ Field f q) (cost : ℕ) (p : cost ≡ price rules f (placeIn (s .places) f))

@@ -14,7 +14,7 @@ use lib.Seq.{getD-set-same, getD-set-other}
 use Rattle.allocation_rounds.specs.declared.Candidate.{Candidate}
 use Rattle.allocation_rounds.specs.declared.Candidate.the-variants.{Nobody, Field}
 use Rattle.allocation_rounds.specs.declared.Run.{Run}
-use Rattle.allocation_rounds.specs.Rounds.{Rules, price, placeIn, closedIn, waits, candidate, closeAt, raiseAt, taken, turn, round, rounds, room, ended}
+use Rattle.allocation_rounds.specs.Rounds.{Rules, price, placeIn, closedIn, waits, candidate, closeAt, raiseAt, taken, turn, round, repeated, rounds, room, ended}
 use Rattle.allocation_rounds.specs.Promises.{Over}
 use Rattle.allocation_rounds.proofs.Fields.{sum, one-differs}
 use Rattle.allocation_rounds.proofs.Scan.{PickedIn, picked-open, candidate-is, nobody}
@@ -214,6 +214,26 @@ module _ (R : Rules) where
 
   pub round-taken : (s : Run) (f : ℕ) (r : Float) → candidate R s ≡ Field f r → round R s ≡ taken R f s
   round-taken s f r e = round-is s ∙ ap (λ (c : Candidate). turn R c s) e
+
+  -- rounds one after the other are the rounds until there is no candidate
+
+  repeated-over : (k : ℕ) (s : Run) → candidate R s ≡ Nobody → repeated R k s ≡ s
+  unfolding repeated
+  repeated-over zero s e = refl
+  repeated-over (suc k) s e = ap (repeated R k) (round-nobody s e) ∙ repeated-over k s e
+
+  repeated-rounds : (k : ℕ) (s : Run) → repeated R k s ≡ rounds R k s
+  unfolding repeated rounds
+  repeated-rounds zero s = refl
+  repeated-rounds (suc k) s = go (repeated-rounds k) (candidate R s) refl
+    where
+      go : ((s : Run) → repeated R k s ≡ rounds R k s) → (c : Candidate) → candidate R s ≡ c → repeated R (suc k) s ≡ rounds R (suc k) s
+      go rest Nobody e = repeated-over (suc k) s e ∙ sym (rounds-over (suc k) s e)
+      go rest (Field f r) e = ap (repeated R k) (round-taken s f r e) ∙ rest (taken R f s) ∙ sym (rounds-on k s f r e)
+
+  pub ended-repeated : (s : Run) → Fit s → (k : ℕ) → roomIn R s ≤ k → ended R s ≡ repeated R k s
+  unfolding ended
+  ended-repeated s fit k l = sym (settled (roomIn R s) s fit (omega arith) .1 k l) ∙ sym (repeated-rounds k s)
 
   -- ---- what survives a raise of the candidate that is paid for, and a close of it that is too dear, holds after a round and at the end
 

@@ -7,7 +7,7 @@ use lib.Ieee.{Float}
 use Rattle.allocation_rounds.specs.declared.Candidate.{Candidate}
 use Rattle.allocation_rounds.specs.declared.Candidate.the-variants.{Field}
 use Rattle.allocation_rounds.specs.declared.Run.{Run}
-use Rattle.allocation_rounds.specs.Rounds.{placeIn, best}
+use Rattle.allocation_rounds.specs.Rounds.{Rules, placeIn, best, repeated, room, ended}
 use Rattle.allocation_rounds.specs.Lent.{lent}
 
 -- the candidate by the rules that are lent, whatever is charged; a field that is one is among the 64 and below place 15
@@ -20,3 +20,8 @@ pub record Onward (s next r : Run) : Type 0 where
   pub whole : r ≡ next
   pub less : r .left ≤ s .left
   pub small : (f : ℕ) → placeIn (s .places) f < 16 → placeIn (r .places) f < 16
+
+-- the end of a run: what rounds come to, repeated as often as there are places above the fields that wait, or oftener
+pub record Finished (R : Rules) (s r : Run) : Type 0 where
+  pub onward : Onward s (ended R s) r
+  pub steps : (k : ℕ) → room R (s .places) (s .closed) (R .fields) ≤ k → r ≡ repeated R k s

@@ -84,6 +84,12 @@ turn R (Field f r) s = taken R f s
 unfoldable pub round : Rules → Run → Run
 round R s = turn R (candidate R s) s
 
+-- so many rounds, one after the other
+unfoldable pub repeated : Rules → ℕ → Run → Run
+unfolding round
+repeated R zero s = s
+repeated R (suc k) s = repeated R k (round R s)
+
 -- ---- the run
 
 -- rounds until there is no candidate, at most k of them

@@ -4,9 +4,9 @@ ghost use mathlib.Core.List.{[]};
 ghost use Prim.Native.Nat.{_+_, _*_, _≤_, _<_, min};
 ghost use lib.ListN.{length, getD};
 ghost use lib.Ieee.{nan};
-ghost use Rattle.allocation_rounds.specs.Rounds.{price, placeIn, closedIn, waits, consider, closeAt, round, ended, started, raisedBy, takenBy};
+ghost use Rattle.allocation_rounds.specs.Rounds.{price, placeIn, closedIn, waits, consider, closeAt, round, started, raisedBy, takenBy};
 ghost use Rattle.allocation_rounds.specs.Lent.{lent};
-ghost use Rattle.allocation_rounds.specs.Answers.{BestIs, Onward};
+ghost use Rattle.allocation_rounds.specs.Answers.{BestIs, Onward, Finished};
 ghost use Rattle.allocation_rounds.specs.Watch.{scanned, watching, Watched, Rewatched};
 
 // The field whose turn it is, with its mask-to-noise ratio.
@@ -18,7 +18,7 @@ pub enum Candidate {
 impl Candidate {
     // The first of equals stays; a NaN is replaced and replaces. The early return compiles to a branch, not to a choice of
     // two values that each field would wait for.
-    pub fn consider(self, field: usize, ratio: f64) -> Candidate
+    pub fn consider(mut self, field: usize, ratio: f64) -> Candidate
         ensures { λ r. ⌜ r ≡ consider self field ratio ⌝ }
     {
         match self {
@@ -29,7 +29,8 @@ impl Candidate {
             }
             Candidate::Nobody => {}
         }
-        Candidate::Field(field, ratio)
+        self = Candidate::Field(field, ratio);
+        self
     }
 }
 
@@ -220,7 +221,7 @@ impl Run {
 
     // One round.
     pub fn step(
-        self,
+        mut self,
         fields: usize,
         tops: &[u8; 64],
         ratios: &[f64; 1024],
@@ -233,10 +234,11 @@ impl Run {
             return self;
         };
         let price = price_of(&self.places, charges, field);
-        self.taken(field, price)
+        self = self.taken(field, price);
+        self
     }
 
-    // Rounds until there is no candidate.
+    // Rounds until there is no candidate: `step`, repeated until it changes nothing.
     pub fn finish(
         self,
         fields: usize,
@@ -244,7 +246,7 @@ impl Run {
         ratios: &[f64; 1024],
         charges: &[u32; 1024],
     ) -> Run
-        ensures { λ r. ⌜ Onward self (ended (lent fields (now (tops .entry)) (now (ratios .entry)) (now (charges .entry))) self) r ⌝ }
+        ensures { λ r. ⌜ Finished (lent fields (now (tops .entry)) (now (ratios .entry)) (now (charges .entry))) self r ⌝ }
     {
         let mut run = self;
         let end = considered(fields);

@@ -11,11 +11,7 @@ use mir.Val.{SFits, toZ, ofZ}
 use mir.Facts.{toZ-pos, toZ-ofZ}
 use borrow.Author.Tests.{le-leb, leb-true, leb-false, ltb-true, ltb-false}
 use Rattle.header.specs.declared.FrameHeader.{FrameHeader}
-use Rattle.encoder_bit_budget.specs.declared.FixedBitBudget.{FixedBitBudget}
-use Rattle.encoder_bit_budget.specs.declared.Budget.{Budget}
-use Rattle.encoder_bit_budget.specs.declared.Budget.the-variants.{Ok}
-use Rattle.encoder_bit_budget.specs.declared.AvailableBits.{AvailableBits}
-use Rattle.encoder_bit_budget.specs.Budget.{BudgetAnswer, budgetIn, budgetOf, fixedIn, offeredIn, availableOf}
+use Rattle.encoder_bit_budget.specs.Budget.{BudgetAnswer, budgetOf, offeredIn, Available, availableOf}
 
 -- ---- a difference below 0 too
 
@@ -50,17 +46,9 @@ module _ (a b : ℕ) (ha : a < 2 ^ 63) (hb : b < 2 ^ 63) where
 -- ---- the answers
 
 -- what the definition makes of the budget's answer
-abbrev availableIn : BudgetAnswer → ℕ → AvailableBits
-availableIn a banc = record { number = a .answer; bits = cond (eqb (a .answer) 0) (offeredIn (a .budget) banc) (pos 0) }
+abbrev availableBy : BudgetAnswer → ℕ → Available
+availableBy a banc = record { answer = a .answer; bits = cond (eqb (a .answer) 0) (offeredIn (a .budget) banc) (pos 0) }
 
-pub none-offered : (h : FrameHeader) (banc : ℕ) (r : Budget) (n : ℕ) → budgetIn r ≡ budgetOf h → eqb (budgetIn r .answer) 0 ≡ false
-  → n ≡ budgetIn r .answer → _≡_ {A = AvailableBits} (record { number = n; bits = pos 0 }) (availableOf h banc)
+pub available-by : (h : FrameHeader) (banc : ℕ) (a : BudgetAnswer) (v : Available) → a ≡ budgetOf h → v ≡ availableBy a banc → v ≡ availableOf h banc
 unfolding availableOf
-none-offered h banc r n e f p =
-    let same : _≡_ {A = AvailableBits} (record { number = n; bits = pos 0 }) (availableIn (budgetIn r) banc) = rw (p, f) in
-    same ∙ ap (λ a. availableIn a banc) e
-
-pub offered : (h : FrameHeader) (banc : ℕ) (b : FixedBitBudget) (z : ℤ) → budgetIn (Ok b) ≡ budgetOf h → z ≡ minus (b .cb) (fixedIn b + banc)
-  → _≡_ {A = AvailableBits} (record { number = 0; bits = z }) (availableOf h banc)
-unfolding availableOf
-offered h banc b z e p = ap (λ z. record { number = 0; bits = z }) p ∙ ap (λ a. availableIn a banc) e
+available-by h banc a v e p = p ∙ ap (λ a. availableBy a banc) e

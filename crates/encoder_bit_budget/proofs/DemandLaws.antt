@@ -25,12 +25,12 @@ use Rattle.bitalloc.specs.Classes.{sampleBits}
 use Rattle.tables.proofs.Search.{find-found, find-missing}
 use Rattle.header.specs.declared.FrameHeader.{FrameHeader}
 use Rattle.encoder_bit_budget.specs.declared.FixedBitBudget.{FixedBitBudget}
-use Rattle.encoder_bit_budget.specs.declared.Budget.{Budget}
 use Rattle.encoder_bit_budget.specs.declared.Budget.the-variants.{Ok}
 use Rattle.encoder_bit_budget.specs.declared.DemandBits.{DemandBits}
+use Rattle.encoder_bit_budget.specs.declared.DemandBits.the-variants.{Bits}
 use Rattle.encoder_bit_budget.specs.Budget.{BudgetAnswer, budgetIn, budgetOf}
 use Rattle.encoder_bit_budget.specs.Snr.{snr}
-use Rattle.encoder_bit_budget.specs.Demand.{neededSteps, neededBits, orTop, smrAt, fieldDemand, demandUnder, demandOf, DemandIs}
+use Rattle.encoder_bit_budget.specs.Demand.{neededSteps, neededBits, orTop, smrAt, fieldDemand, demandUnder, Demanded, demandIn, demandOf, DemandIs}
 use Rattle.encoder_bit_budget.specs.Layout.{fieldsAt, fieldsBelow, fieldsOf, sumOver}
 use Rattle.encoder_bit_budget.proofs.FieldLaws.{fieldsBy}
 use Rattle.encoder_bit_budget.proofs.BudgetLaws.{accepted-is}
@@ -149,20 +149,18 @@ module _ (t : BitAllocTable) (smr : List (List Float)) (bound channels sb : ℕ)
 -- ---- the answers
 
 -- what the definition makes of the budget's answer
-abbrev demandIn : FrameHeader → List (List Float) → BudgetAnswer → DemandBits
-demandIn h smr a = record { number = a .answer; bits = cond (eqb (a .answer) 0) (demandUnder h smr (a .budget .table)) 0 }
+abbrev demandBy : FrameHeader → List (List Float) → BudgetAnswer → Demanded
+demandBy h smr a = record { answer = a .answer; bits = cond (eqb (a .answer) 0) (demandUnder h smr (a .budget .table)) 0 }
 
-pub none-demanded : (h : FrameHeader) (smr : List (List Float)) (r : Budget) (n : ℕ) → budgetIn r ≡ budgetOf h → eqb (budgetIn r .answer) 0 ≡ false
-  → n ≡ budgetIn r .answer → DemandIs h smr (record { number = n; bits = 0 })
+pub none-demanded : (h : FrameHeader) (smr : List (List Float)) (a : BudgetAnswer) (r : DemandBits) → a ≡ budgetOf h → demandIn r ≡ demandBy h smr a
+  → demandIn r .bits ≡ 0 → DemandIs h smr r
 unfolding demandOf
-none-demanded h smr r n e f p =
-    let same : _≡_ {A = DemandBits} (record { number = n; bits = 0 }) (demandIn h smr (budgetIn r)) = rw (p, f) in
-    record { whole = same ∙ ap (demandIn h smr) e; small = lit≤ tt }
+none-demanded h smr a r e p z = record { whole = p ∙ ap (demandBy h smr) e; small = rw z (lit≤ tt) }
 
 pub demanded : (h : FrameHeader) (smr : List (List Float)) (b : FixedBitBudget) (bits : ℕ) → budgetIn (Ok b) ≡ budgetOf h
   → bits ≡ sumOver (fieldDemand (b .table) smr) (fieldsBelow (b .bound) (b .channels) (b .sblimit)) → bits ≤ 60 * 616
-  → DemandIs h smr (record { number = 0; bits = bits })
+  → DemandIs h smr (Bits bits)
 unfolding demandOf fieldsOf
 demanded h smr b bits e p l =
     let q = ap (λ (c : FixedBitBudget). sumOver (fieldDemand (b .table) smr) (fieldsBelow (c .bound) (c .channels) (c .sblimit))) (accepted-is h b e) in
-    record { whole = ap (λ (n : ℕ). record { number = 0; bits = n }) (p ∙ q) ∙ ap (demandIn h smr) e; small = l }
+    record { whole = ap (λ (n : ℕ). record { answer = 0; bits = n }) (p ∙ q) ∙ ap (demandBy h smr) e; small = l }

@@ -2,20 +2,25 @@
 use mathlib.Core.Path.{_≡_, refl, sym, ap, _∙_, subst, subst₂}
 use mathlib.Core.Bool.{Bool, false, not, _&&_, _||_}
 use mathlib.Core.Logic.{⊎-elim}
-use mathlib.Core.List.{List, [], _∷_}
+use mathlib.Core.List.{List, [], _∷_, map}
 use mathlib.Core.Option.{Option, none, some, Option·map, Option·none-ne-some, Option·some-injective}
-use Prim.Native.Nat.{ℕ, _≤_, _<_}
+use Prim.Native.Nat.{ℕ, zero, suc, _-_, _≤_, _<_}
 use native.Mathlib.Nat.{eq-or-lt-of-le}
+use native.Mathlib.Omega.{arith}
+use types.Run.{OneOf}
+use lib.Count.{leadingZeros}
+use lib.ListN.{getD, getElem?}
 use lib.Dec.{T, ltb, eqb}
 use lib.Ieee.{Float, nan, inf, fin, binary64, lt, le, fits}
 use lib.Ieee.Scale.{finite}
 use lib.IntN.{pos}
 use borrow.Author.Tests.{lt-ltb, ne-eqb, eqb-true}
-use Rattle.tables.specs.Search.{find, oneOf, entryAt}
+use Rattle.tables.specs.Search.{find, oneOf}
 use Rattle.tables.proofs.Rule.{first, second, all}
-use Rattle.tables.proofs.Search.{find-passes, none-passes}
+use Rattle.tables.proofs.Search.{there, past, find-passes, none-passes}
+use Rattle.tables.proofs.Keys.{Each, at-key, no-key}
 use Rattle.ieee_order.proofs.Order.{finite-number, float-lt-le, float-refl}
-use Rattle.encoder_bit_budget.specs.Snr.{Ratio, RatioRule, ratios, snrOf}
+use Rattle.encoder_bit_budget.specs.Snr.{Ratio, RatioRule, ratios, decibels, rowNumber, orPast, snrOf}
 
 -- what a found ratio was found in
 of-row : (o : Option Ratio) (x : Float) → Option·map (λ r. r .db) o ≡ some x → (r : Ratio) × (o ≡ some r) × (r .db ≡ x)
@@ -81,9 +86,12 @@ no-reach nan = refl
 no-reach (inf s) = refl
 no-reach (fin s m e) = refl
 
+-- the steps from 15 on, in whose digits there are only ones
+abbrev pub long-keys : List ℕ
+long-keys = 15 ∷ 31 ∷ 63 ∷ 127 ∷ 255 ∷ 511 ∷ 1023 ∷ 2047 ∷ 4095 ∷ 8191 ∷ 16383 ∷ 32767 ∷ 65535 ∷ []
+
 abbrev pub keys : List ℕ
-keys =
-    0 ∷ 3 ∷ 5 ∷ 7 ∷ 9 ∷ 15 ∷ 31 ∷ 63 ∷ 127 ∷ 255 ∷ 511 ∷ 1023 ∷ 2047 ∷ 4095 ∷ 8191 ∷ 16383 ∷ 32767 ∷ 65535 ∷ []
+keys = 0 ∷ 3 ∷ 5 ∷ 7 ∷ 9 ∷ long-keys
 
 keyed : Ratio → Bool
 keyed r = oneOf keys (r .steps)
@@ -92,24 +100,44 @@ computed-keys : T (all keyed ratios)
 unfolding keyed oneOf ratios
 computed-keys = tt
 
-no-ratio : (steps : ℕ) → oneOf keys steps ≡ false → none ≡ snrOf steps
-unfolding snrOf keyed
-no-ratio steps h =
-    sym (ap (λ o. Option·map (λ r. r .db) (entryAt ratios o))
-    (none-passes (λ r. eqb (r .steps) steps) keyed ratios computed-keys
+pub no-row : (steps : ℕ) → (steps ≡ 0 → ⊥) → (steps ≡ 3 → ⊥) → (steps ≡ 5 → ⊥) → (steps ≡ 7 → ⊥) → (steps ≡ 9 → ⊥)
+  → (OneOf long-keys steps → ⊥) → 18 ≡ orPast (rowNumber steps)
+unfolding rowNumber keyed oneOf
+no-row steps a b c d e f =
+    let h : oneOf keys steps ≡ false =
+        rw (ne-eqb steps 0 a, ne-eqb steps 3 b, ne-eqb steps 5 c, ne-eqb steps 7 d, ne-eqb steps 9 e) (no-key long-keys steps f) in
+    sym (ap orPast (none-passes (λ r. eqb (r .steps) steps) keyed ratios computed-keys
     (λ r t. ne-eqb (r .steps) steps (λ e. subst T h (subst (λ (n : ℕ). T (oneOf keys n)) e t)))))
 
--- what the last arm of a `match` tells where every other arm has one key: none of them, the last key's outermost
-abbrev pub Others : Type 0 → List ℕ → ℕ → Type 0
-Others N [] n = N
-Others N (k ∷ ks) n = Others (N × (n ≡ k → ⊥)) ks n
+-- ---- the row of a number of steps, and what stands there
 
-others : (N : Type 0) (ks : List ℕ) (n : ℕ) → Others N ks n → (oneOf ks n ≡ false) × N
-unfolding oneOf
-others N [] n h = (refl, h)
-others N (k ∷ ks) n h =
-    let g = others (N × (n ≡ k → ⊥)) ks n h in
-    (rw (ne-eqb n k (g .1 .1)) (g .0), g .1 .0)
+computed-rows : Each (λ n. 33 - leadingZeros 32 n ≡ orPast (rowNumber n)) long-keys
+unfolding rowNumber leadingZeros
+computed-rows = (refl, (refl, (refl, (refl, (refl, (refl, (refl, (refl, (refl, (refl, (refl, (refl, (refl, tt)))))))))))))
 
-pub off-keys : (n : ℕ) → Others (Unit {0}) keys n → none ≡ snrOf n
-off-keys n h = no-ratio n (others (Unit {0}) keys n h .0)
+pub long-row : (steps : ℕ) → OneOf long-keys steps → 33 - leadingZeros 32 steps ≡ orPast (rowNumber steps)
+long-row steps h = at-key (λ n. 33 - leadingZeros 32 n ≡ orPast (rowNumber n)) long-keys steps computed-rows h
+
+column-at : (f : Ratio → Float) (rs : List Ratio) (i : ℕ) → Option·map f (getElem? rs i) ≡ getElem? (map f rs) i
+column-at f [] i = refl
+column-at f (r ∷ rs) zero = refl
+column-at f (r ∷ rs) (suc i) = column-at f rs i
+
+module _ (steps row : ℕ) (at : row ≡ orPast (rowNumber steps)) where
+  pub ratio-there : (table : List Float) → row < 18 → table ≡ decibels → some (getD table row nan) ≡ snrOf steps
+  unfolding rowNumber snrOf decibels
+  ratio-there table h e = go (rowNumber steps) refl
+    where
+      go : (o : Option ℕ) → rowNumber steps ≡ o → some (getD table row nan) ≡ snrOf steps
+      go none p = let z = at ∙ ap orPast p in absurd (omega arith)
+      go (some i) p =
+          let z : row ≡ i = at ∙ ap orPast p in
+          rw (e, z, p) (sym (column-at (λ r. r .db) ratios i ∙ there decibels i nan (omega arith)))
+
+  pub ratio-missing : 18 ≤ row → none ≡ snrOf steps
+  unfolding rowNumber snrOf
+  ratio-missing h = go (rowNumber steps) refl
+    where
+      go : (o : Option ℕ) → rowNumber steps ≡ o → none ≡ snrOf steps
+      go none p = rw p
+      go (some i) p = let z : row ≡ i = at ∙ ap orPast p in rw (p, past ratios i (omega arith))

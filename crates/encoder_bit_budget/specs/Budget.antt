@@ -18,6 +18,7 @@ use Rattle.encoder_bit_budget.specs.declared.FixedBitBudget.{FixedBitBud
 use Rattle.encoder_bit_budget.specs.declared.Budget.{Budget}
 use Rattle.encoder_bit_budget.specs.declared.Budget.the-variants.{Ok, NoBitallocTable, ZeroSampleRate, FrameTooLarge}
 use Rattle.encoder_bit_budget.specs.declared.AvailableBits.{AvailableBits}
+use Rattle.encoder_bit_budget.specs.declared.AvailableBits.the-variants as A
 use Rattle.encoder_bit_budget.specs.Layout.{boundIn, fieldsOf, sumOver}
 
 -- ---- the questions that every entry with a header asks first
@@ -101,12 +102,23 @@ budgetOf h = record { answer = number (headerAsked h); budget = acceptedUnder h 
 abbrev pub offeredIn : FixedBitBudget → ℕ → ℤ
 offeredIn b banc = minus (b .cb) (fixedIn b + banc)
 
--- the answer of `available_data_bits`: 0 bits where the header is refused
-unfoldable pub availableOf : FrameHeader → ℕ → AvailableBits
+-- the answer of `available_data_bits`: its number, and the bits, which are 0 where the header is refused
+pub record Available : Type 0 where
+  pub answer : ℕ
+  pub bits : ℤ
+
+-- what each case of the enum stands for
+abbrev pub availableIn : AvailableBits → Available
+availableIn (A.Bits z) = record { answer = 0; bits = z }
+availableIn A.NoBitallocTable = record { answer = 1; bits = pos 0 }
+availableIn A.ZeroSampleRate = record { answer = 2; bits = pos 0 }
+availableIn A.FrameTooLarge = record { answer = 3; bits = pos 0 }
+
+unfoldable pub availableOf : FrameHeader → ℕ → Available
 unfolding budgetOf
 availableOf h banc =
     let a = budgetOf h in
-    record { number = a .answer; bits = cond (eqb (a .answer) 0) (offeredIn (a .budget) banc) (pos 0) }
+    record { answer = a .answer; bits = cond (eqb (a .answer) 0) (offeredIn (a .budget) banc) (pos 0) }
 
 -- ---- what the functions promise
 

@@ -16,6 +16,7 @@ use Rattle.bitalloc.specs.Tables.{rowOf}
 use Rattle.bitalloc.specs.Classes.{sampleBits}
 use Rattle.tables.specs.Search.{find}
 use Rattle.encoder_bit_budget.specs.declared.DemandBits.{DemandBits}
+use Rattle.encoder_bit_budget.specs.declared.DemandBits.the-variants.{Bits, NoBitallocTable, ZeroSampleRate, FrameTooLarge}
 use Rattle.encoder_bit_budget.specs.Snr.{snr}
 use Rattle.encoder_bit_budget.specs.Layout.{Field, fieldsOf, sumOver}
 use Rattle.encoder_bit_budget.specs.Budget.{budgetOf}
@@ -55,16 +56,27 @@ unfoldable pub demandUnder : FrameHeader → List (List Float) → BitAllocTable
 unfolding neededBits
 demandUnder h smr t = sumOver (fieldDemand t smr) (fieldsOf h t)
 
--- the whole answer: 0 bits where the header is refused
-unfoldable pub demandOf : FrameHeader → List (List Float) → DemandBits
+-- the answer of `demand_bits`: its number, and the bits, which are 0 where the header is refused
+pub record Demanded : Type 0 where
+  pub answer : ℕ
+  pub bits : ℕ
+
+-- what each case of the enum stands for
+abbrev pub demandIn : DemandBits → Demanded
+demandIn (Bits n) = record { answer = 0; bits = n }
+demandIn NoBitallocTable = record { answer = 1; bits = 0 }
+demandIn ZeroSampleRate = record { answer = 2; bits = 0 }
+demandIn FrameTooLarge = record { answer = 3; bits = 0 }
+
+unfoldable pub demandOf : FrameHeader → List (List Float) → Demanded
 unfolding demandUnder budgetOf
 demandOf h smr =
     let a = budgetOf h in
-    record { number = a .answer; bits = cond (eqb (a .answer) 0) (demandUnder h smr (a .budget .table)) 0 }
+    record { answer = a .answer; bits = cond (eqb (a .answer) 0) (demandUnder h smr (a .budget .table)) 0 }
 
 -- ---- what the function promises
 
 -- besides the whole answer a bound: 60 fields at most, of 576 bits of samples and 40 for the first step
 pub record DemandIs (h : FrameHeader) (smr : List (List Float)) (r : DemandBits) : Type 0 where
-  pub whole : r ≡ demandOf h smr
-  pub small : r .bits ≤ 60 * 616
+  pub whole : demandIn r ≡ demandOf h smr
+  pub small : demandIn r .bits ≤ 60 * 616

@@ -2,14 +2,14 @@
 use Prim.Native.Nat.{ℕ}
 use mathlib.Core.Path.{_≡_}
 use mathlib.Core.Bool.{false}
-use mathlib.Core.List.{List, [], _∷_}
+use mathlib.Core.List.{List, [], _∷_, map}
 use mathlib.Core.Option.{Option, none, some, Option·map}
 use lib.Dec.{T, eqb}
 use lib.Ieee.{Float, nan, fin, binary64, le, fits, isNan}
 use lib.Ieee.Scale.{finite}
 use lib.IntN.{pos}
 use Rattle.tables.specs.Decimal.{decimal}
-use Rattle.tables.specs.Search.{find}
+use Rattle.tables.specs.Search.{place, find}
 use Rattle.encoder_bit_budget.specs.declared.OptionF64.{OptionF64}
 use Rattle.encoder_bit_budget.specs.declared.OptionF64.the-variants.{Some, None}
 
@@ -44,6 +44,21 @@ ratios =
     ∷ ratio 32767 92_01
     ∷ ratio 65535 98_01
     ∷ []
+
+-- the column of ratios
+unfoldable pub decibels : List Float
+unfolding ratios
+decibels = map (λ r. r .db) ratios
+
+-- the row that has a number of steps, counted from 0
+unfoldable pub rowNumber : ℕ → Option ℕ
+unfolding ratios
+rowNumber steps = place (λ r. eqb (r .steps) steps) ratios
+
+-- what the code has for no row: the number past the last
+abbrev pub orPast : Option ℕ → ℕ
+orPast none = 18
+orPast (some i) = i
 
 -- the ratio of a number of steps
 unfoldable pub snrOf : ℕ → Option Float

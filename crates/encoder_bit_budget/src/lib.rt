@@ -2,15 +2,15 @@
 // terms of the bit allocation of ISO/IEC 11172-3 C.1.5.2.7 and the required bit rate of Annex G.1.
 ghost use mathlib.Core.Path.{_≡_};
 ghost use mathlib.Core.Bool.{cond};
-ghost use Prim.Native.Nat.{_+_, _≤_, _<_};
+ghost use Prim.Native.Nat.{_+_, _*_, _≤_, _<_};
 ghost use lib.Ieee.{le};
 ghost use lib.ListN.{length, take};
 ghost use Rattle.header.specs.Header.{boundOf};
 ghost use Rattle.bitalloc.specs.Tables.{sblimitOf, nbalOf};
-ghost use Rattle.encoder_bit_budget.specs.Snr.{snrOf, snr, ratioIn};
+ghost use Rattle.encoder_bit_budget.specs.Snr.{decibels, rowNumber, orPast, snrOf, snr, ratioIn};
 ghost use Rattle.encoder_bit_budget.specs.Layout.{fieldsAt, fieldsBelow, sharedFrom, sumOver};
-ghost use Rattle.encoder_bit_budget.specs.Budget.{fixedIn, budgetIn, availableOf, BudgetIs};
-ghost use Rattle.encoder_bit_budget.specs.Demand.{neededSteps, neededBits, fieldDemand, DemandIs};
+ghost use Rattle.encoder_bit_budget.specs.Budget.{fixedIn, budgetIn, availableIn, availableOf, BudgetIs};
+ghost use Rattle.encoder_bit_budget.specs.Demand.{neededSteps, neededBits, fieldDemand, demandIn, DemandIs};
 use bitalloc::{BitAllocTable, OptionTable};
 use header::{FrameHeader, FrameSize, Mode};
 
@@ -20,30 +20,45 @@ pub enum OptionF64 {
     None,
 }
 
-// The signal-to-noise ratio in dB of a number of steps (Table C.5); no steps have 0 dB.
+// Table C.5: the signal-to-noise ratios in dB, by rising number of steps.
+const SNR_DB: [f64; 18] = [
+    0.00, 7.00, 11.00, 16.00, 20.84, 25.28, 31.59, 37.75, 43.84, 49.89, 55.93, 61.96, 67.98, 74.01, 80.03, 86.05, 92.01, 98.01,
+];
+
+// The whole table. Reading a constant table rebuilds it, so a caller that reads many entries takes it once.
+pub fn snr_table() -> [f64; 18]
+    ensures { λ r. ⌜ r ≡ decibels ⌝ }
+{
+    SNR_DB
+}
+
+// The row of the table that has a number of steps; 18, past the last, where none has.
+fn snr_row(nb_steps: u32) -> usize
+    ensures { λ r. ⌜ r ≡ orPast (rowNumber «nb_steps») ⌝ }
+{
+    match nb_steps {
+        0 => 0,
+        3 => 1,
+        5 => 2,
+        7 => 3,
+        9 => 4,
+        15 | 31 | 63 | 127 | 255 | 511 | 1023 | 2047 | 4095 | 8191 | 16383 | 32767 | 65535 => {
+            (33 - u32::leading_zeros(nb_steps)) as usize
+        }
+        _ => 18,
+    }
+}
+
+// The signal-to-noise ratio in dB of a number of steps; no steps have 0 dB.
 pub fn snr_db(nb_steps: u32) -> OptionF64
     ensures { λ r. ⌜ ratioIn r ≡ snrOf «nb_steps» ⌝ }
 {
-    match nb_steps {
-        0 => OptionF64::Some(0.00),
-        3 => OptionF64::Some(7.00),
-        5 => OptionF64::Some(11.00),
-        7 => OptionF64::Some(16.00),
-        9 => OptionF64::Some(20.84),
-        15 => OptionF64::Some(25.28),
-        31 => OptionF64::Some(31.59),
-        63 => OptionF64::Some(37.75),
-        127 => OptionF64::Some(43.84),
-        255 => OptionF64::Some(49.89),
-        511 => OptionF64::Some(55.93),
-        1023 => OptionF64::Some(61.96),
-        2047 => OptionF64::Some(67.98),
-        4095 => OptionF64::Some(74.01),
-        8191 => OptionF64::Some(80.03),
-        16383 => OptionF64::Some(86.05),
-        32767 => OptionF64::Some(92.01),
-        65535 => OptionF64::Some(98.01),
-        _ => OptionF64::None,
+    let row = snr_row(nb_steps);
+    if row < 18 {
+        let table = snr_table();
+        OptionF64::Some(table[row])
+    } else {
+        OptionF64::None
     }
 }
 
@@ -188,32 +203,88 @@ fn allocation_bits(table: BitAllocTable, bound: usize, channels: usize) -> u32
     bits
 }
 
-// An answer's number, and the bits offered, which may be below 0; 0 where it is refused.
-pub struct AvailableBits {
-    pub number: u32,
-    pub bits: i64,
+// What `available_data_bits` answers: the bits, which may be below 0, or the header's refusal.
+pub enum AvailableBits {
+    Bits(i64),
+    NoBitallocTable,
+    ZeroSampleRate,
+    FrameTooLarge,
+}
+
+impl AvailableBits {
+    // The answer's number: 0 where the header is accepted.
+    pub fn refusal(self) -> u32
+        ensures { λ r. ⌜ r ≡ availableIn self .answer ⌝ }
+    {
+        match self {
+            AvailableBits::Bits(_) => 0,
+            AvailableBits::NoBitallocTable => 1,
+            AvailableBits::ZeroSampleRate => 2,
+            AvailableBits::FrameTooLarge => 3,
+        }
+    }
+
+    // The bits; 0 where the header is refused.
+    pub fn bits(self) -> i64
+        ensures { λ r. ⌜ r ≡ availableIn self .bits ⌝ }
+    {
+        match self {
+            AvailableBits::Bits(bits) => bits,
+            AvailableBits::NoBitallocTable => 0,
+            AvailableBits::ZeroSampleRate => 0,
+            AvailableBits::FrameTooLarge => 0,
+        }
+    }
 }
 
 // What the frame offers to samples and scalefactors beside `banc` ancillary bits.
 pub fn available_data_bits(header: FrameHeader, banc: u32) -> AvailableBits
-    ensures { λ r. ⌜ r ≡ availableOf header banc ⌝ }
+    ensures { λ r. ⌜ availableIn r ≡ availableOf header banc ⌝ }
 {
     let budget = fixed_bit_budget(header);
-    let Budget::Ok(b) = budget else {
-        let number = budget.refusal();
-        return AvailableBits { number, bits: 0 };
-    };
-    let spent = b.fixed() + (banc as u64);
-    AvailableBits {
-        number: 0,
-        bits: (b.cb as i64) - (spent as i64),
+    match budget {
+        Budget::Ok(b) => {
+            let spent = b.fixed() + (banc as u64);
+            AvailableBits::Bits((b.cb as i64) - (spent as i64))
+        }
+        Budget::NoBitallocTable => AvailableBits::NoBitallocTable,
+        Budget::ZeroSampleRate => AvailableBits::ZeroSampleRate,
+        Budget::FrameTooLarge => AvailableBits::FrameTooLarge,
     }
 }
 
-// An answer's number, and the bits demanded; 0 where it is refused.
-pub struct DemandBits {
-    pub number: u32,
-    pub bits: u64,
+// What `demand_bits` answers: the bits, or the header's refusal.
+pub enum DemandBits {
+    Bits(u64),
+    NoBitallocTable,
+    ZeroSampleRate,
+    FrameTooLarge,
+}
+
+impl DemandBits {
+    // The answer's number: 0 where the header is accepted.
+    pub fn refusal(self) -> u32
+        ensures { λ r. ⌜ r ≡ demandIn self .answer ⌝ }
+    {
+        match self {
+            DemandBits::Bits(_) => 0,
+            DemandBits::NoBitallocTable => 1,
+            DemandBits::ZeroSampleRate => 2,
+            DemandBits::FrameTooLarge => 3,
+        }
+    }
+
+    // The bits; 0 where the header is refused.
+    pub fn bits(self) -> u64
+        ensures { λ r. ⌜ r ≡ demandIn self .bits ⌝ }
+    {
+        match self {
+            DemandBits::Bits(bits) => bits,
+            DemandBits::NoBitallocTable => 0,
+            DemandBits::ZeroSampleRate => 0,
+            DemandBits::FrameTooLarge => 0,
+        }
+    }
 }
 
 // The data bits with which every allocation field has a mask-to-noise ratio of at least 0 dB or stands at its top place (Annex G.1, required
@@ -222,10 +293,19 @@ pub fn demand_bits(header: FrameHeader, smr_db: [[f64; 32]; 2]) -> DemandBits
     ensures { λ r. ⌜ DemandIs header «smr_db» r ⌝ }
 {
     let budget = fixed_bit_budget(header);
-    let Budget::Ok(b) = budget else {
-        let number = budget.refusal();
-        return DemandBits { number, bits: 0 };
-    };
+    match budget {
+        Budget::Ok(b) => DemandBits::Bits(demand_under(b, &smr_db)),
+        Budget::NoBitallocTable => DemandBits::NoBitallocTable,
+        Budget::ZeroSampleRate => DemandBits::ZeroSampleRate,
+        Budget::FrameTooLarge => DemandBits::FrameTooLarge,
+    }
+}
+
+// The demand of all fields of a budget.
+fn demand_under(b: FixedBitBudget, smr_db: &[[f64; 32]; 2]) -> u64
+    requires { ⌜ (b .sblimit ≡ sblimitOf (b .table)) × (b .sblimit ≤ 30) ⌝ }
+    ensures { λ r. ⌜ (r ≡ sumOver (fieldDemand (b .table) (now («smr_db» .entry))) (fieldsBelow (b .bound) (b .channels) (b .sblimit))) × (r ≤ 60 * 616) ⌝ }
+{
     let table = b.table;
     let bound = b.bound;
     let channels = b.channels;
@@ -233,10 +313,10 @@ pub fn demand_bits(header: FrameHeader, smr_db: [[f64; 32]; 2]) -> DemandBits
     let mut bits: u64 = 0;
     let mut sb: usize = 0;
     while sb < sblimit {
-        bits = bits + subband_demand(table, bound, channels, sb, &smr_db);
+        bits = bits + subband_demand(table, bound, channels, sb, smr_db);
         sb = sb + 1;
     }
-    DemandBits { number: 0, bits }
+    bits
 }
 
 // The demand of a subband's fields: below the bound each channel's own, from there on one for both, which pays its samples once and the

@@ -46,7 +46,7 @@ returns c =
     let n = l .before .before .before .before .before in
     let s = n .before in
     run-is (s .args .b) _ _ _ _ _ _ _ _ (s .pre) (n .field-count .ensures .0) (n .field-count .ensures .1) (l .lay-tops .ensures)
-    (o .lay-out .ensures) (c .before .before .before .before .start .ensures) (c .finish .ensures)
+    (o .lay-out .ensures) (c .before .before .before .before .start .ensures) (c .finish .ensures .onward)
 
 pub run-of-spec : {M : Type 1} → statement M
 run-of-spec =

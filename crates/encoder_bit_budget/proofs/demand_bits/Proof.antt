@@ -1,106 +1,67 @@
--- `encoder_bit_budget::demand_bits` meets its contract. The loop's invariant: the sum over the fields of the subbands passed.
-use Prim.Native.Nat.{ℕ, _*_, _-_, _≤_, _<_}
-use native.Mathlib.Omega.{arith}
-use mathlib.Core.Path.{_≡_, sym, ap, _∙_, subst}
+-- `encoder_bit_budget::demand_bits` meets its contract: the fields of the budget are the header's, and a refusal is the budget's.
 use borrow.Author.Needs.{needs}
-use Rattle.bitalloc.specs.Tables.{sblimitOf}
-use Rattle.encoder_bit_budget.specs.Layout.{fieldsBelow, sumOver}
+use mathlib.Core.Path.{_≡_, refl, sym, ap, _∙_}
+use Rattle.encoder_bit_budget.specs.declared.Budget.the-variants.{NoBitallocTable, ZeroSampleRate, FrameTooLarge}
 use Rattle.encoder_bit_budget.specs.Budget.{budgetIn, budgetUnder}
-use Rattle.encoder_bit_budget.specs.Demand.{fieldDemand}
-use Rattle.encoder_bit_budget.proofs.FieldLaws.{added, summed}
-use Rattle.encoder_bit_budget.proofs.BudgetLaws.{refused, accepted-is}
+use Rattle.encoder_bit_budget.proofs.BudgetLaws.{accepted-is}
 use Rattle.encoder_bit_budget.proofs.DemandLaws.{none-demanded, demanded}
 use Rattle.encoder_bit_budget.proofs.demand_bits.Statement.{statement}
 use Rattle.encoder_bit_budget.proofs.demand_bits.Tie as tie
 
-abbrev Inv-loop : tie.InvT-loop
-Inv-loop smr-db table bound channels sblimit bits₀ sb₀ bits sb =
-    (sb ≤ sblimit) × ((bits ≡ sumOver (fieldDemand table smr-db) (fieldsBelow bound channels sb)) × (bits ≤ 1232 * sb))
-
-abbrev μ-loop : tie.MeasureT-loop
-μ-loop smr-db table bound channels sblimit bits₀ sb₀ bits sb = sblimit - sb
-
-fixed-bit-budget-requires : tie.Need-fixed-bit-budget-requires Inv-loop μ-loop
+fixed-bit-budget-requires : tie.Need-fixed-bit-budget-requires
 fixed-bit-budget-requires c κs = search needs
 
-enum-known-budget : tie.Need-enum-known-budget Inv-loop μ-loop
+enum-known-budget : tie.Need-enum-known-budget
 enum-known-budget c = search needs
 
-refusal-requires : tie.Need-refusal-requires Inv-loop μ-loop
-refusal-requires c κs = search needs
-
-returns : tie.Need-returns Inv-loop μ-loop
-returns c =
-    let b = c .before .before .fixed-bit-budget in
-    none-demanded _ _ (b .result) _ (b .ensures .whole) (refused (b .result) (c .before .match .keys2)) (c .refusal .ensures)
-
-loop-holds : tie.Need-loop-holds Inv-loop μ-loop
-unfolding fieldsBelow
-loop-holds c = search needs
-
--- the subbands carried are the table's
-limit : (c : tie.After-known-told Inv-loop μ-loop) → c .before .budget .given .0 .0 .sblimit ≡ sblimitOf (c .before .budget .given .0 .0 .table)
+demand-under-requires : tie.Need-demand-under-requires
 unfolding budgetUnder
-limit c =
-    let g = c .before .budget .given in
-    ap (λ b. b .sblimit) (accepted-is _ (g .0 .0) (ap budgetIn (sym (g .1)) ∙ c .before .before .before .fixed-bit-budget .ensures .whole))
-
-short : (c : tie.After-known-told Inv-loop μ-loop) → c .before .budget .given .0 .0 .sblimit ≤ 30
-short c =
-    let g = c .before .budget .given in
-    c .before .before .before .fixed-bit-budget .ensures .bounded (g .0 .0) (g .1) .sblimit
-
-subband-demand-requires : tie.Need-subband-demand-requires Inv-loop μ-loop
-subband-demand-requires c κs = subst (λ (n : ℕ). c .before .before .loop .sb < n) (limit (c .before .before .before)) (c .before .loop-test .taken)
-
-add-bits : tie.Need-add-bits Inv-loop μ-loop
-add-bits c = omega (arith, short (c .before .before .before .before))
-
-add-sb : tie.Need-add-sb Inv-loop μ-loop
-add-sb c = search needs
-
-loop-less : tie.Need-loop-less Inv-loop μ-loop
-loop-less c = search needs
-
-loop-again : tie.Need-loop-again Inv-loop μ-loop
-loop-again c =
-    let l = c .before .before .before .loop in
-    let k = c .before .before .before .before in
-    let b = k .before .budget .given .0 .0 in
+demand-under-requires c κs =
+    let g = c .before .before .budget .given in
+    let f = c .before .before .before .before .fixed-bit-budget .ensures in
     (
-      search needs,
-      (
-        added (fieldDemand (b .table) (k .before .before .before .before .args .t2)) (b .bound) (b .channels) (l .sb) (l .bits) (l .inv .1 .0) _
-        (c .subband-demand .ensures .0),
-        search needs
-      )
+      ap (λ b. b .sblimit) (accepted-is _ (g .0 .0) (ap budgetIn (sym (g .1)) ∙ f .whole)),
+      f .bounded (g .0 .0) (g .1) .sblimit
     )
 
-returns-2 : tie.Need-returns-2 Inv-loop μ-loop
+enum-told : tie.Need-enum-told
+enum-told c = search needs
+
+enum-told-2 : tie.Need-enum-told-2
+enum-told-2 c = search needs
+
+enum-told-3 : tie.Need-enum-told-3
+enum-told-3 c = search needs
+
+returns : tie.Need-returns
+returns c =
+    let g = c .before .before .before .budget .given in
+    let f = c .before .before .before .before .before .fixed-bit-budget .ensures in
+    demanded _ _ (g .0 .0) _ (ap budgetIn (sym (g .1)) ∙ f .whole) (c .demand-under .ensures .0) (c .demand-under .ensures .1)
+
+returns-2 : tie.Need-returns-2
 returns-2 c =
-    let l = c .before .loop in
-    let k = c .before .before in
-    let g = k .before .budget .given in
-    let b = g .0 .0 in
-    demanded _ _ b _ (ap budgetIn (sym (g .1)) ∙ k .before .before .before .fixed-bit-budget .ensures .whole)
-    (summed (fieldDemand (b .table) (k .before .before .before .before .args .t2)) (b .bound) (b .channels) (l .sb) (l .bits) (l .inv .1 .0) _
-    (search needs) (search needs))
-    (omega (arith, short k))
+    none-demanded _ _ (budgetIn NoBitallocTable) _ (ap budgetIn (sym (c .enum-told .given .1)) ∙ c .before .before .fixed-bit-budget .ensures .whole) refl refl
+
+returns-3 : tie.Need-returns-3
+returns-3 c =
+    none-demanded _ _ (budgetIn ZeroSampleRate) _ (ap budgetIn (sym (c .enum-told2 .given .1)) ∙ c .before .before .fixed-bit-budget .ensures .whole) refl refl
+
+returns-4 : tie.Need-returns-4
+returns-4 c =
+    none-demanded _ _ (budgetIn FrameTooLarge) _ (ap budgetIn (sym (c .enum-told3 .given .1)) ∙ c .before .before .fixed-bit-budget .ensures .whole) refl refl
 
 pub demand-bits-spec : {M : Type 1} → statement M
 demand-bits-spec =
     tie.close
     (tie.spec
-    Inv-loop
-    μ-loop
     fixed-bit-budget-requires
     enum-known-budget
-    refusal-requires
+    demand-under-requires
+    enum-told
+    enum-told-2
+    enum-told-3
     returns
-    loop-holds
-    subband-demand-requires
-    add-bits
-    add-sb
-    loop-less
-    loop-again
-    returns-2)
+    returns-2
+    returns-3
+    returns-4)
