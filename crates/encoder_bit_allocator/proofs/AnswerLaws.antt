@@ -2,9 +2,10 @@
 use mathlib.Core.Path.{_≡_, refl, sym, ap, _∙_, subst}
 use mathlib.Core.Bool.{Bool, true, false, not, cond}
 use mathlib.Core.List.{List, [], _∷_, map}
-use Prim.Native.Nat.{ℕ, zero, suc, _+_, _-_, _≤_, _<_}
+use Prim.Native.Nat.{ℕ, zero, suc, _+_, _-_, _*_, _≤_, _<_}
+use native.Mathlib.Nat.{zero-div}
 use native.Mathlib.Omega.{arith}
-use lib.Dec.{T, leb, eqb}
+use lib.Dec.{T, leb, eqb, lit≤}
 use lib.Ieee.{Float, nan, binary64, fits}
 use lib.ListN.{getD}
 use mir.Val.{Val}
@@ -12,10 +13,10 @@ use denote.Shadow.{shadow}
 use denote.Laws.{Is}
 use denote.Array.{Array, each, inArray}
 use denote.Floats.{FloatOf, passes}
-use borrow.Author.Tests.{eq-eqb, le-leb, lt-leb}
+use borrow.Author.Tests.{eqb-true, eq-eqb, le-leb, lt-leb}
 use Rattle.header.specs.declared.FrameHeader.{FrameHeader}
 use Rattle.header.specs.Questions.{Question, number}
-use Rattle.header.specs.Header.{frameBytes}
+use Rattle.header.specs.Header.{frameBytes, freeFormat}
 use Rattle.bitalloc.specs.Tables.{sblimitOf}
 use Rattle.bitalloc.specs.Select.{tableOf}
 use Rattle.audio_data.specs.declared.AudioData.{AudioData}
@@ -93,6 +94,26 @@ module _ (h : FrameHeader) (banc : ℕ) where
       let q = after-refused (isSome (tableOf h)) (not (eqb (h .«sample_rate») 0)) (leb (frameBytes h) 536_870_911) enough (rw answered at e) in
       (q .0 ∙ sym answered, rw answered (q .1))
 
+-- ---- free format
+
+padded : (b : Bool) → cond b 1 0 ≤ 1
+padded true = lit≤ tt
+padded false = lit≤ tt
+
+module _ (h : FrameHeader) (free : freeFormat h ≡ true) where
+  free-bytes : frameBytes h ≤ 1
+  free-bytes = rw (eqb-true (h .«bit_rate») 0 free, zero-div) (omega (arith, padded (h .padding)))
+
+  -- the header alone has 32 bits
+  free-short : (banc : ℕ) → budgetOf h .answer ≡ 0 → leb (fixedIn (budgetOf h .budget) + banc) (budgetOf h .budget .cb) ≡ false
+  unfolding budgetUnder
+  free-short banc e =
+      let b = budgetOf h .budget in
+      let is : b ≡ budgetUnder h (b .table) = accepted-is h b (λ i. record { answer = sym e i; budget = b }) in
+      let cb : b .cb ≡ 8 * frameBytes h = ap (λ b. b .cb) is in
+      let bhdr : b .bhdr ≡ 32 = ap (λ b. b .bhdr) is in
+      lt-leb (fixedIn b + banc) (b .cb) (omega (arith, free-bytes))
+
 -- ---- the answers
 
 -- the limits of an accepted budget are its table's
@@ -104,6 +125,20 @@ abbrev answer : FrameHeader → List (List Float) → ℕ → ℕ → FixedBitBu
 answer h smr banc n b = cond (eqb n 0) (accepted h b smr banc) (cond (eqb n 4) (insufficient b banc) (refused n))
 
 module _ (h : FrameHeader) (smr : List (List Float)) (banc : ℕ) where
+  free-number : freeFormat h ≡ true → number (headerAsked h) ≡ 0 → allocationOf h smr banc .number ≡ 4
+  unfolding allocationOf
+  free-number free z =
+      let e : budgetOf h .answer ≡ 0 = answered h banc ∙ z in
+      let n : number (allocationAsked h banc) ≡ 4 = asked-last h banc e ∙ ap (λ (v : Bool). number (last v)) (free-short h free banc e) in
+      ap (λ (n : ℕ). answer h smr banc n (budgetOf h .budget) .number) n
+
+  -- the whole answer, and what it is worth
+  answers : (r : Allocation) → r ≡ allocationOf h smr banc
+    → (r .number ≡ 0
+    → Worth h (budgetOf h .budget .table) smr (budgetOf h .budget .cb - (fixedIn (budgetOf h .budget) + banc)) (r .audio .«nb_steps») (r .left))
+    → AllocationIs h smr banc r
+  answers r whole worth = record { whole = whole; worth = worth; free = λ f z. ap (λ (a : Allocation). a .number) whole ∙ free-number f z }
+
   -- the header is refused
   pub is-refused : (r : Budget) (n : ℕ) (a : Allocation) → budgetIn r ≡ budgetOf h → eqb (budgetIn r .answer) 0 ≡ false → n ≡ budgetIn r .answer
     → a ≡ refused n → AllocationIs h smr banc a
@@ -115,10 +150,8 @@ module _ (h : FrameHeader) (smr : List (List Float)) (banc : ℕ) where
       let g : eqb n 0 ≡ false = subst (λ (m : ℕ). eqb m 0 ≡ false) (sym z) f′ in
       let k : eqb n 4 ≡ false = subst (λ (m : ℕ). eqb m 4 ≡ false) (sym z) (q .1) in
       let w : refused n ≡ answer h smr banc n (budgetOf h .budget) = rw (g, k) in
-      record {
-        whole = made ∙ w ∙ ap (λ (m : ℕ). answer h smr banc m (budgetOf h .budget)) (z ∙ sym (q .0));
-        worth = λ o. absurd (subst T (sym (eq-eqb n 0 (sym (ap (λ (a : Allocation). a .number) made) ∙ o)) ∙ g) tt)
-      }
+      answers a (made ∙ w ∙ ap (λ (m : ℕ). answer h smr banc m (budgetOf h .budget)) (z ∙ sym (q .0)))
+      (λ o. absurd (subst T (sym (eq-eqb n 0 (sym (ap (λ (a : Allocation). a .number) made) ∙ o)) ∙ g) tt))
 
   module _ (b : FixedBitBudget) (ok : budgetIn (Ok b) ≡ budgetOf h) where
     the-number : budgetOf h .answer ≡ 0
@@ -135,11 +168,11 @@ module _ (h : FrameHeader) (smr : List (List Float)) (banc : ℕ) where
     pub is-insufficient : (fixed : ℕ) (d : AudioData) → b .cb < fixedIn b + banc → fixed ≡ fixedIn b → d ≡ filler
       → AllocationIs h smr banc (record { number = 4; audio = d; left = 0; cb = b .cb; fixed = fixed; banc = banc })
     unfolding allocationOf
-    is-insufficient fixed d l e f = record {
-      whole = (λ i. record { number = 4; audio = f i; left = 0; cb = ap (λ (x : FixedBitBudget). x .cb) (sym the-budget) i; fixed = (e ∙ ap fixedIn (sym the-budget)) i; banc = banc })
-        ∙ ap (λ (n : ℕ). answer h smr banc n (budgetOf h .budget)) (sym (asked false (lt-leb (fixedIn b + banc) (b .cb) l)));
-      worth = λ o. absurd (let z : _≡_ {A = ℕ} 4 0 = o in omega arith)
-    }
+    is-insufficient fixed d l e f =
+        answers _
+        ((λ i. record { number = 4; audio = f i; left = 0; cb = ap (λ (x : FixedBitBudget). x .cb) (sym the-budget) i; fixed = (e ∙ ap fixedIn (sym the-budget)) i; banc = banc })
+        ∙ ap (λ (n : ℕ). answer h smr banc n (budgetOf h .budget)) (sym (asked false (lt-leb (fixedIn b + banc) (b .cb) l))))
+        (λ o. absurd (let z : _≡_ {A = ℕ} 4 0 = o in omega arith))
 
     -- the fields of the budget are the header's
     same-fields : fieldsBelow (b .bound) (b .channels) (b .sblimit) ≡ fieldsOf h (b .table)
@@ -171,10 +204,8 @@ module _ (h : FrameHeader) (smr : List (List Float)) (banc : ℕ) where
     is-accepted r bounds fit l e =
         let w : r ≡ accepted h b smr banc = e ∙ same-answer in
         let o = b .cb - (fixedIn b + banc) in
-        record {
-          whole = w ∙ ap (λ (x : FixedBitBudget). accepted h x smr banc) (sym the-budget)
-            ∙ ap (λ (n : ℕ). answer h smr banc n (budgetOf h .budget)) (sym (asked true (le-leb (fixedIn b + banc) (b .cb) l)));
-          worth = λ z.
-            subst (λ (x : FixedBitBudget). Worth h (x .table) smr (x .cb - (fixedIn x + banc)) (r .audio .«nb_steps») (r .left)) (sym the-budget)
-            (subst (λ (a : Allocation). Worth h (b .table) smr o (a .audio .«nb_steps») (a .left)) (sym w) (worth h (b .table) smr o (low bounds) fit))
-        }
+        answers r
+        (w ∙ ap (λ (x : FixedBitBudget). accepted h x smr banc) (sym the-budget)
+        ∙ ap (λ (n : ℕ). answer h smr banc n (budgetOf h .budget)) (sym (asked true (le-leb (fixedIn b + banc) (b .cb) l))))
+        (λ z. subst (λ (x : FixedBitBudget). Worth h (x .table) smr (x .cb - (fixedIn x + banc)) (r .audio .«nb_steps») (r .left)) (sym the-budget)
+        (subst (λ (a : Allocation). Worth h (b .table) smr o (a .audio .«nb_steps») (a .left)) (sym w) (worth h (b .table) smr o (low bounds) fit)))

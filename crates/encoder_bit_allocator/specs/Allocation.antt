@@ -1,7 +1,7 @@
 -- The allocation of a frame's bits, and what an accepted one is worth.
 use Prim.Native.Nat.{ℕ, _+_, _-_, _*_, _/_, _%_, _<_}
 use mathlib.Core.Path.{_≡_}
-use mathlib.Core.Bool.{Bool, false, cond, _&&_}
+use mathlib.Core.Bool.{Bool, true, false, cond, _&&_}
 use mathlib.Core.List.{List, [], _∷_, _++_, map}
 use mathlib.Core.Option.{Option, none, some}
 use lib.Dec.{T, leb, eqb}
@@ -11,6 +11,7 @@ use Rattle.tables.specs.Listed.{tabulate}
 use Rattle.tables.specs.Search.{place, oneOf}
 use Rattle.header.specs.declared.FrameHeader.{FrameHeader}
 use Rattle.header.specs.Questions.{Question, number}
+use Rattle.header.specs.Header.{freeFormat}
 use Rattle.bitalloc.specs.declared.BitAllocTable.{BitAllocTable}
 use Rattle.bitalloc.specs.Tables.{rowOf}
 use Rattle.audio_data.specs.declared.AudioData.{AudioData}
@@ -143,8 +144,10 @@ pub record Worth (h : FrameHeader) (t : BitAllocTable) (smr : List (List Float))
     → getD steps (32 * ch + fieldIn (fieldsOf h t) f .subband) 0 ≡ fieldSteps steps (fieldIn (fieldsOf h t) f)
   pub elsewhere : (ch sb : ℕ) → ch < 2 → sb < 32 → place (serves ch sb) (fieldsOf h t) ≡ none → getD steps (32 * ch + sb) 0 ≡ 0
 
--- what `allocate_bits` promises; where it accepts, question 4 has made the bits offered a difference that does not fall below 0
+-- What `allocate_bits` promises. Where it accepts, question 4 has made the bits offered a difference that does not fall below 0. A frame in
+-- free format counts as 0 bytes, 1 with padding: one that gets as far as question 4 is always answered 4.
 pub record AllocationIs (h : FrameHeader) (smr : List (List Float)) (banc : ℕ) (r : Allocation) : Type 0 where
   pub whole : r ≡ allocationOf h smr banc
   pub worth : r .number ≡ 0
     → Worth h (budgetOf h .budget .table) smr (budgetOf h .budget .cb - (fixedIn (budgetOf h .budget) + banc)) (r .audio .«nb_steps») (r .left)
+  pub free : freeFormat h ≡ true → number (headerAsked h) ≡ 0 → r .number ≡ 4
