@@ -65,11 +65,11 @@ abbrev pub budgetFixed : FrameHeader → Reply ℕ
 budgetFixed h = reply (budgetOf h .answer) (budgetValues (budgetOf h .budget))
 
 abbrev pub bitsAvailable : ℕ → FrameHeader → Reply ℤ
-bitsAvailable banc h = reply (availableOf h banc .number) (availableOf h banc .bits ∷ [])
+bitsAvailable banc h = reply (availableOf h banc .answer) (availableOf h banc .bits ∷ [])
 
 -- ratios by slot
 abbrev pub bitsDemanded : List Float → FrameHeader → Reply ℕ
-bitsDemanded smr h = reply (demandOf h (rowsOf smr) .number) (demandOf h (rowsOf smr) .bits ∷ [])
+bitsDemanded smr h = reply (demandOf h (rowsOf smr) .answer) (demandOf h (rowsOf smr) .bits ∷ [])
 
 -- the allocation's two slices: the steps by slot; and the bits left, with cb, fixed and banc
 abbrev pub stepsAllocated : List Float → ℕ → FrameHeader → Reply ℕ

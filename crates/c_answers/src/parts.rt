@@ -10,7 +10,6 @@ ghost use Rattle.c_answers.specs.Replies.{classFound, classOr, figuresOf
 use crate::arguments;
 use bitalloc::{BitAllocTable, OptionClass, OptionTable};
 use encoder_bit_allocator::Allocation;
-use encoder_bit_budget::AvailableBits;
 use encoder_samples::{SampleCode, Triplet};
 use encoder_scfsi::ScfsiSelection;
 use header::FrameSize;
@@ -53,13 +52,6 @@ pub fn size_bytes(size: FrameSize) -> u64
         FrameSize::Bytes(bytes) => bytes,
         FrameSize::ZeroSampleRate => 0,
     }
-}
-
-// The bits offered.
-pub fn offered_bits(available: AvailableBits) -> i64
-    ensures { λ r. ⌜ r ≡ available .bits ⌝ }
-{
-    available.bits
 }
 
 // The steps of every slot.

@@ -158,8 +158,8 @@ pub extern "C" fn folgrist_available_data_bits(
         HeaderGiven::Refused(number) => number,
         HeaderGiven::Meant(header) => {
             let available = encoder_bit_budget::available_data_bits(header, banc);
-            out[0] = parts::offered_bits(available);
-            available.number
+            out[0] = available.bits();
+            available.refusal()
         }
     }
 }
@@ -190,8 +190,8 @@ pub extern "C" fn folgrist_demand_bits(
         HeaderGiven::Refused(number) => number,
         HeaderGiven::Meant(header) => {
             let demand = encoder_bit_budget::demand_bits(header, slots::rows(smr_db));
-            out[0] = demand.bits;
-            demand.number
+            out[0] = demand.bits();
+            demand.refusal()
         }
     }
 }

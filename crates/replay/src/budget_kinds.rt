@@ -71,7 +71,7 @@ pub fn available_data_bits(count: usize, numbers: &[u64; 256]) -> Verdict {
     let available = encoder_bit_budget::available_data_bits(header, banc);
     verdict_of(
         count == 11,
-        (available.number as u64 == numbers[9]) & (available.bits == i64_of(numbers[10])),
+        (available.refusal() as u64 == numbers[9]) & (available.bits() == i64_of(numbers[10])),
     )
 }
 
@@ -83,8 +83,8 @@ pub fn demand_bits(count: usize, numbers: &[u64; 256]) -> Verdict {
     let demand = encoder_bit_budget::demand_bits(header, ratios(numbers, 8));
     pair_verdict(
         count == 74,
-        demand.number as u64,
-        demand.bits,
+        demand.refusal() as u64,
+        demand.bits(),
         numbers[72],
         numbers[73],
     )

@@ -52,7 +52,7 @@ fn answers(header: FrameHeader) -> [u64; 5] {
         table_number(bitalloc::select_table(header)),
         bytes(header),
         fixed_bits(budget),
-        not_below_zero(available.bits),
+        not_below_zero(available.bits()),
     ]
 }
 
@@ -99,5 +99,5 @@ fn demand(smr: f64) -> u64 {
     let mut first = [0.0; 32];
     first[0] = smr;
     let answer = encoder_bit_budget::demand_bits(header, [first, [0.0; 32]]);
-    answer.bits
+    answer.bits()
 }

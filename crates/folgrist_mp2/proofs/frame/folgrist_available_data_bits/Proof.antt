@@ -1,6 +1,7 @@
--- `folgrist_mp2::frame::folgrist_available_data_bits` meets its contract: the reply is the record that `available_data_bits` answers.
+-- `folgrist_mp2::frame::folgrist_available_data_bits` meets its contract: the reply is what `available_data_bits` answers.
 use borrow.Author.Tests.{ltb-false}
-use mathlib.Core.Path.{ap, _∙_}
+use mathlib.Core.Path.{ap, ap₂, _∙_}
+use Prim.Native.Nat.{ℕ}
 use mathlib.Core.List.{[], _∷_}
 use lib.IntN.{ℤ}
 use mir.Syntax.{w64}
@@ -24,13 +25,16 @@ enum-known-given-2 c = search needs
 available-data-bits-requires : tie.Need-available-data-bits-requires
 available-data-bits-requires c κs = search needs
 
-offered-bits-requires : tie.Need-offered-bits-requires
-offered-bits-requires c κs = search needs
+bits-requires : tie.Need-bits-requires
+bits-requires c κs = search needs
 
 slice-set-from-out : tie.Need-slice-set-from-out
 slice-set-from-out c =
     let k = c .before .before in
     ltb-false _ _ (room _ _ _ (header-meant _ _ _ (k .before .before .before .header-given .ensures) (k .before .given2 .given .1)))
+
+refusal-requires : tie.Need-refusal-requires
+refusal-requires c κs = search needs
 
 returns : tie.Need-returns
 returns c = refused-by _ _ _ _ (header-refused _ _ _ (c .before .before .before .header-given .ensures) (c .before .given .given .1))
@@ -40,11 +44,12 @@ same-length c = search needs
 
 returns-2 : tie.Need-returns-2
 returns-2 c =
-    let k = c .before .before in
+    let k = c .before .before .before in
+    let b = c .before .bits in
     let m = header-meant _ _ _ (k .before .before .before .header-given .ensures) (k .before .given2 .given .1) in
     one-by _ _ _ _ _ _ m
-    (ap (λ (z : ℤ). reply (c .before .available-data-bits .result .number) (z ∷ [])) (toZ-ofZ {w = w64} {z = c .offered-bits .result} (record { sfits = c .offered-bits .ok }) ∙ c .offered-bits .ensures)
-    ∙ ap (λ a. reply (a .number) (a .bits ∷ [])) (c .before .available-data-bits .ensures))
+    (ap₂ (λ (n : ℕ) (z : ℤ). reply n (z ∷ [])) (c .refusal .ensures) (toZ-ofZ {w = w64} {z = b .result} (record { sfits = b .ok }) ∙ b .ensures)
+    ∙ ap (λ a. reply (a .answer) (a .bits ∷ [])) (c .before .before .available-data-bits .ensures))
     (ltb-false _ _ (room _ _ _ m))
 
 pub folgrist-available-data-bits-spec : {M : Type 1} → statement M
@@ -55,8 +60,9 @@ folgrist-available-data-bits-spec =
     enum-known-given
     enum-known-given-2
     available-data-bits-requires
-    offered-bits-requires
+    bits-requires
     slice-set-from-out
+    refusal-requires
     returns
     same-length
     returns-2)

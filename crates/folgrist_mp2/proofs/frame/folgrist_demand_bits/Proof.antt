@@ -1,6 +1,7 @@
--- `folgrist_mp2::frame::folgrist_demand_bits` meets its contract: the reply is the record that `demand_bits` answers for the two rows of ratios.
+-- `folgrist_mp2::frame::folgrist_demand_bits` meets its contract: the reply is what `demand_bits` answers for the two rows of ratios.
 use lib.ListN.{length}
-use mathlib.Core.Path.{ap, _∙_}
+use mathlib.Core.Path.{ap, ap₂, _∙_}
+use Prim.Native.Nat.{ℕ}
 use mathlib.Core.List.{[], _∷_}
 use borrow.Author.Needs.{needs}
 use Rattle.c_answers.proofs.AnswerLaws.{room, both-long, refused-by, one-by}
@@ -25,12 +26,18 @@ rows-requires c κs = search needs
 demand-bits-requires : tie.Need-demand-bits-requires
 demand-bits-requires c κs = search needs
 
+bits-requires : tie.Need-bits-requires
+bits-requires c κs = search needs
+
 slice-write-out : tie.Need-slice-write-out
 slice-write-out c =
-    let k = c .before .before in
+    let k = c .before .before .before in
     let s = k .before .before .before .before .before .before in
     let m = header-meant _ _ _ (k .before .before .before .header-given .ensures) (k .before .given2 .given .1) in
     both-long (length (s .args .smr-db .now)) 64 (length (s .args .out .now)) 1 (room _ _ _ m) .1
+
+refusal-requires : tie.Need-refusal-requires
+refusal-requires c κs = search needs
 
 returns : tie.Need-returns
 returns c = refused-by _ _ _ _ (header-refused _ _ _ (c .before .before .before .header-given .ensures) (c .before .given .given .1))
@@ -40,11 +47,13 @@ same-length c = search needs
 
 returns-2 : tie.Need-returns-2
 returns-2 c =
-    let k = c .before .before in
+    let k = c .before .before .before .before in
+    let d = c .before .before in
     let s = k .before .before .before .before .before .before in
     let m = header-meant _ _ _ (k .before .before .before .header-given .ensures) (k .before .given2 .given .1) in
     one-by _ _ _ _ _ _ m
-    (ap (λ a. reply (a .number) (a .bits ∷ [])) (c .demand-bits .ensures .whole ∙ ap (demandOf _) (c .before .rows .ensures)))
+    (ap₂ (λ (n bits : ℕ). reply n (bits ∷ [])) (c .refusal .ensures) (c .before .bits .ensures)
+    ∙ ap (λ a. reply (a .answer) (a .bits ∷ [])) (d .demand-bits .ensures .whole ∙ ap (demandOf _) (d .before .rows .ensures)))
     (both-long (length (s .args .smr-db .now)) 64 (length (s .args .out .now)) 1 (room _ _ _ m) .1)
 
 pub folgrist-demand-bits-spec : {M : Type 1} → statement M
@@ -56,7 +65,9 @@ folgrist-demand-bits-spec =
     enum-known-given-2
     rows-requires
     demand-bits-requires
+    bits-requires
     slice-write-out
+    refusal-requires
     returns
     same-length
     returns-2)

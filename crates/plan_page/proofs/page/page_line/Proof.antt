@@ -1,7 +1,7 @@
 -- `plan_page::page::page_line` meets its contract.
-use mathlib.Core.Path.{ap}
+use mathlib.Core.Path.{ap, _∙_}
 use Rattle.plan_page.proofs.PageLaws.{line-accepted, line-refused, line-behind}
-use Rattle.encoder_bit_budget.specs.declared.DemandBits.{DemandBits}
+use Rattle.encoder_bit_budget.specs.Demand.{Demanded}
 use borrow.Author.Needs.{needs}
 use Rattle.plan_page.proofs.page.page_line.Statement.{statement}
 use Rattle.plan_page.proofs.page.page_line.Tie as tie
@@ -17,6 +17,9 @@ demand-bits-requires c κs = search needs
 
 offered-bits-requires : tie.Need-offered-bits-requires
 offered-bits-requires c κs = search needs
+
+bits-requires : tie.Need-bits-requires
+bits-requires c κs = search needs
 
 cast-accepted-line : tie.Need-cast-accepted-line
 cast-accepted-line c = search needs
@@ -35,11 +38,11 @@ new-requires c κs = search needs
 
 returns : tie.Need-returns
 returns c =
-    let d = c .before .before .before .before .before in
+    let d = c .before .before .before .before .before .before in
     let a = d .before .before .before .before in
     let f = d .before .budget-held .ensures in
-    line-accepted _ _ _ (a .allocate-bits .result) (a .allocate-bits .ensures .whole) _ _ _ _ _ (f .whole) (ap (λ (x : DemandBits). x .bits) (d .demand-bits .ensures .whole))
-    (c .before .before .offered-bits .ensures) (d .before .before .if1 .taken) (c .accepted-line .ensures)
+    line-accepted _ _ _ (a .allocate-bits .result) (a .allocate-bits .ensures .whole) _ _ _ _ _ (f .whole) (c .before .before .bits .ensures ∙ ap (λ (x : Demanded). x .bits) (d .demand-bits .ensures .whole))
+    (c .before .before .before .offered-bits .ensures) (d .before .before .if1 .taken) (c .accepted-line .ensures)
 
 returns-2 : tie.Need-returns-2
 returns-2 c =
@@ -61,6 +64,7 @@ page-line-spec =
     budget-held-requires
     demand-bits-requires
     offered-bits-requires
+    bits-requires
     cast-accepted-line
     accepted-line-requires
     is-free-format-requires
