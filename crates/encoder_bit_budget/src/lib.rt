@@ -53,9 +53,17 @@ fn snr_row(nb_steps: u32) -> usize
 pub fn snr_db(nb_steps: u32) -> OptionF64
     ensures { λ r. ⌜ ratioIn r ≡ snrOf «nb_steps» ⌝ }
 {
+    let table = snr_table();
+    snr_in(&table, nb_steps)
+}
+
+// The same in the table that is lent.
+fn snr_in(table: &[f64; 18], nb_steps: u32) -> OptionF64
+    requires { ⌜ now table ≡ decibels ⌝ }
+    ensures { λ r. ⌜ ratioIn r ≡ snrOf «nb_steps» ⌝ }
+{
     let row = snr_row(nb_steps);
     if row < 18 {
-        let table = snr_table();
         OptionF64::Some(table[row])
     } else {
         OptionF64::None
@@ -357,11 +365,12 @@ fn needed_steps(row: &[u32; 16], places: usize, smr: f64) -> u32
     requires { ⌜ (1 ≤ places) × (places ≤ 16) × (length (now row) ≡ 16) ⌝ }
     ensures { λ r. ⌜ r ≡ neededSteps (take places (now (row .entry))) smr ⌝ }
 {
+    let table = snr_table();
     let top = places - 1;
     let mut at: usize = 1;
     while at < top {
         let steps = row[at];
-        if reaches(steps, smr) {
+        if reaches(&table, steps, smr) {
             return steps;
         }
         at = at + 1;
@@ -369,11 +378,12 @@ fn needed_steps(row: &[u32; 16], places: usize, smr: f64) -> u32
     row[top]
 }
 
-// Whether the signal-to-noise ratio of a number of steps is at least `smr`.
-fn reaches(steps: u32, smr: f64) -> bool
+// Whether the signal-to-noise ratio of a number of steps, in the table that is lent, is at least `smr`.
+fn reaches(table: &[f64; 18], steps: u32, smr: f64) -> bool
+    requires { ⌜ now table ≡ decibels ⌝ }
     ensures { λ r. ⌜ r ≡ le smr (snr steps) ⌝ }
 {
-    let ratio = snr_db(steps);
+    let ratio = snr_in(table, steps);
     let OptionF64::Some(snr) = ratio else {
         return false;
     };

@@ -9,10 +9,13 @@ use Rattle.encoder_bit_budget.proofs.needed_steps.Statement.{statement}
 use Rattle.encoder_bit_budget.proofs.needed_steps.Tie as tie
 
 abbrev Inv-loop : tie.InvT-loop
-Inv-loop row places smr top at₀ at = (1 ≤ at) × Passed row smr at
+Inv-loop row places smr table top at₀ at = (1 ≤ at) × Passed row smr at
 
 abbrev μ-loop : tie.MeasureT-loop
-μ-loop row places smr top at₀ at = top - at
+μ-loop row places smr table top at₀ at = top - at
+
+snr-table-requires : tie.Need-snr-table-requires Inv-loop μ-loop
+snr-table-requires c κs = search needs
 
 sub-top : tie.Need-sub-top Inv-loop μ-loop
 sub-top c = search needs
@@ -31,8 +34,8 @@ reaches-requires c κs = search needs
 
 returns : tie.Need-returns Inv-loop μ-loop
 returns c =
-    let a = c .before .before .before .before .before .args in
-    let l = c .before .before .before .before .loop in
+    let a = c .before .before .before .before .before .before .before .args in
+    let l = c .before .before .before .before .before .loop in
     reached (a .row .now) (a .places) (a .smr) (search needs) (search needs) (l .at) (l .inv .0) (search needs) (l .inv .1)
     (sym (c .before .reaches .ensures) ∙ c .if1 .taken)
 
@@ -44,7 +47,7 @@ loop-less c = search needs
 
 loop-again : tie.Need-loop-again Inv-loop μ-loop
 loop-again c =
-    let l = c .before .before .before .before .loop in
+    let l = c .before .before .before .before .before .loop in
     (search needs, below-more _ (l .at) (l .inv .1) (λ h. sym (c .before .reaches .ensures) ∙ c .if1 .left))
 
 mul-result : tie.Need-mul-result Inv-loop μ-loop
@@ -55,7 +58,7 @@ element-copy-out-result c = search needs
 
 returns-2 : tie.Need-returns-2 Inv-loop μ-loop
 returns-2 c =
-    let a = c .before .before .before .args in
+    let a = c .before .before .before .before .args in
     let l = c .before .before .loop in
     top (a .row .now) (a .places) (a .smr) (search needs) (search needs) (λ k h. l .inv .1 k (omega arith))
 
@@ -65,6 +68,7 @@ needed-steps-spec =
     (tie.spec
     Inv-loop
     μ-loop
+    snr-table-requires
     sub-top
     loop-holds
     mul-steps
