@@ -63,7 +63,7 @@ Agrees Share0Then12 t = t .second ≡ t .third
 
 pub record CodeIs (s : Scfsi) (r : ℕ) : Type 0 where
   pub whole : r ≡ codeOf s
-  pub most : r ≤ 3
+  pub small : r ≤ 3
 
 pub record PartsAre (s : Scfsi) (r : ℕ) : Type 0 where
   pub whole : r ≡ partsOf s

@@ -4,6 +4,7 @@ ghost use mathlib.Core.Path.{_≡_};
 ghost use Rattle.audio_data.specs.Scfsi.{CodeIs, PartsAre};
 ghost use Rattle.audio_data.specs.Record.{fresh, filler};
 use bitalloc::BitAllocTable;
+use bitalloc::NUM_SUBBANDS;
 
 // Scalefactor selection information (2.4.2.6): which of the three granules, of 12 samples each, share a scalefactor.
 pub enum Scfsi {
@@ -57,11 +58,11 @@ pub struct AudioData {
     pub bound: usize,
     pub channels: usize,
     // By slot: the number of quantization steps; 0 where nothing is allocated.
-    pub nb_steps: [u32; 64],
+    pub nb_steps: [u32; 2 * NUM_SUBBANDS],
     // By slot.
-    pub scfsi: [ScfsiSlot; 64],
+    pub scfsi: [ScfsiSlot; 2 * NUM_SUBBANDS],
     // At 3 * slot + granule: the index into Table 3-B.1.
-    pub scalefactor: [u8; 192],
+    pub scalefactor: [u8; 6 * NUM_SUBBANDS],
 }
 
 impl AudioData {
@@ -74,11 +75,11 @@ impl AudioData {
             sblimit: table.sblimit(),
             bound,
             channels,
-            nb_steps: [0; 64],
+            nb_steps: [0; 2 * NUM_SUBBANDS],
             scfsi: [ScfsiSlot {
                 scfsi: Scfsi::ThreePerGranule,
-            }; 64],
-            scalefactor: [0; 192],
+            }; 2 * NUM_SUBBANDS],
+            scalefactor: [0; 6 * NUM_SUBBANDS],
         }
     }
 
@@ -91,11 +92,11 @@ impl AudioData {
             sblimit: 0,
             bound: 0,
             channels: 0,
-            nb_steps: [0; 64],
+            nb_steps: [0; 2 * NUM_SUBBANDS],
             scfsi: [ScfsiSlot {
                 scfsi: Scfsi::ThreePerGranule,
-            }; 64],
-            scalefactor: [0; 192],
+            }; 2 * NUM_SUBBANDS],
+            scalefactor: [0; 6 * NUM_SUBBANDS],
         }
     }
 }

@@ -13,7 +13,7 @@ use Rattle.encoder_samples.specs.declared.SampleCode.the-variants.{Code,
 use Rattle.encoder_samples.specs.declared.Triplet.{Triplet}
 use Rattle.encoder_samples.specs.Samples.{quantized, triplet}
 use Rattle.encoder_samples.specs.Entries.{sampleCode, tripletAnswer, noTriplet, SampleCodeIs, TripletIs}
-use Rattle.encoder_samples.proofs.Codes.{code-below, three-below, triplet-held}
+use Rattle.encoder_samples.proofs.Codes.{Held, code-below, three-below, triplet-held}
 
 pub no-code : (steps : ℕ) (sample : Float) → classOf steps ≡ none → SampleCodeIs steps sample NoClass
 unfolding sampleCode
@@ -32,14 +32,15 @@ pub no-triplet : (steps : ℕ) (samples : List Float) → classOf steps ≡ none
 unfolding tripletAnswer
 no-triplet steps samples e = record {
   whole = rw e;
-  held = record { few = lit≤ tt; narrow = lit≤ tt; below = three-below _ _ _ _ (lit< tt) (lit< tt) (lit< tt) }
+  few = lit≤ tt;
+  narrow = lit≤ tt;
+  below = three-below _ _ _ _ (lit< tt) (lit< tt) (lit< tt)
 }
 
 pub some-triplet : (steps : ℕ) (samples : List Float) (q : QuantClass) (t : Triplet) → classOf steps ≡ some q → ClassRule q
   → t ≡ triplet q samples
   → TripletIs steps samples (record { number = 0; triplet = t })
 unfolding tripletAnswer
-some-triplet steps samples q t e rule h = record {
-  whole = rw (e, h);
-  held = rw h (triplet-held q rule samples)
-}
+some-triplet steps samples q t e rule h =
+    let held : Held t = rw h (triplet-held q rule samples) in
+    record { whole = rw (e, h); few = held .few; narrow = held .narrow; below = held .below }

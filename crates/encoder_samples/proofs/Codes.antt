@@ -12,8 +12,9 @@ use lib.Ieee.{Float, nan, inf, fin}
 use lib.Ieee.Digits.{size-lt, size-le}
 use Rattle.bitalloc.specs.declared.QuantClass.{QuantClass}
 use Rattle.bitalloc.specs.Classes.{bitsPerSample, ClassRule}
+use Rattle.encoder_samples.specs.declared.Triplet.{Triplet}
 use Rattle.encoder_samples.specs.Samples.{half, clamped, codeTo, lastCode, quantized}
-use Rattle.encoder_samples.specs.Samples.{combined, oneCodeword, threeCodewords, codewordsOf, triplet, Held}
+use Rattle.encoder_samples.specs.Samples.{combined, oneCodeword, threeCodewords, codewordsOf, triplet}
 
 -- ---- half of the codes
 
@@ -114,6 +115,12 @@ three-below n a b c A B C (suc (suc (suc i))) = omega arith
 combined-below : (s a b c : ℕ) → a < s → b < s → c < s → combined s a b c < s * s * s
 combined-below s a b c A B C =
     omega (arith, rw mul-suc at (mul-le-mul-left s B), rw mul-suc at (mul-le-mul-left (s * s) C))
+
+-- at most 3 codewords, of at most 16 bits, and each is held by its bits
+pub record Held (t : Triplet) : Type 0 where
+  pub few : t .count ≤ 3
+  pub narrow : t .width ≤ 16
+  pub below : (i : ℕ) → getD (t .codewords) i 0 < 2 ^ t .width
 
 module _ (q : QuantClass) (rule : ClassRule q) (a b c : ℕ) (A : CodeOf q a) (B : CodeOf q b) (C : CodeOf q c) where
   -- three digits in one codeword of the class's width

@@ -1,11 +1,12 @@
 -- The answers of the entries that take a number of steps: the code or the triplet of its class, or a refusal where there is no class.
-use Prim.Native.Nat.{ℕ, _^_, _<_}
+use Prim.Native.Nat.{ℕ, _^_, _≤_, _<_}
 use mathlib.Core.Path.{_≡_}
 use mathlib.Core.Bool.{Bool, true, false, cond}
 use mathlib.Core.List.{List, [], _∷_}
 use mathlib.Core.Option.{Option, none, some}
 use lib.Dec.{eqb}
 use lib.Ieee.{Float}
+use lib.ListN.{getD}
 use Rattle.header.specs.Questions.{Question, number}
 use Rattle.header.specs.Header.{whereAccepted}
 use Rattle.bitalloc.specs.declared.QuantClass.{QuantClass}
@@ -14,7 +15,7 @@ use Rattle.encoder_samples.specs.declared.SampleCode.{SampleCode}
 use Rattle.encoder_samples.specs.declared.SampleCode.the-variants.{Code, NoClass}
 use Rattle.encoder_samples.specs.declared.Triplet.{Triplet}
 use Rattle.encoder_samples.specs.declared.TripletAnswer.{TripletAnswer}
-use Rattle.encoder_samples.specs.Samples.{quantized, triplet, Held}
+use Rattle.encoder_samples.specs.Samples.{quantized, triplet}
 
 -- question 5: the number of steps is that of a class
 abbrev pub found : Option QuantClass → Bool
@@ -70,6 +71,9 @@ pub record SampleCodeIs (steps : ℕ) (sample : Float) (r : SampleCode) : Type 0
   pub whole : codedOf r ≡ sampleCode steps sample
   pub small : codedOf r .code < 2 ^ 16
 
+-- the whole answer, and what a writer of codewords counts on: at most 3 of them, of at most 16 bits, and each is held by its bits
 pub record TripletIs (steps : ℕ) (samples : List Float) (r : TripletAnswer) : Type 0 where
   pub whole : r ≡ tripletAnswer steps samples
-  pub held : Held (r .triplet)
+  pub few : r .triplet .count ≤ 3
+  pub narrow : r .triplet .width ≤ 16
+  pub below : (i : ℕ) → getD (r .triplet .codewords) i 0 < 2 ^ r .triplet .width

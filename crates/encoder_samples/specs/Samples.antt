@@ -1,7 +1,7 @@
 -- Sample codes of Layer II: ISO/IEC 11172-3 2.4.3.3.4, the decoder's s'' = C * (s''' + D) read backwards.
 -- s''' is a fraction of n bits, the first of weight -1: k / h with h = 2 ^ (n - 1) and a whole k from -h up. The code, s''' with its first
 -- bit inverted, is k + h.
-use Prim.Native.Nat.{ℕ, _+_, _-_, _*_, _/_, _%_, _^_, _≤_, _<_, min}
+use Prim.Native.Nat.{ℕ, _+_, _-_, _*_, _/_, _%_, _^_, min}
 use mathlib.Core.Bool.{cond}
 use mathlib.Core.List.{List, [], _∷_}
 use lib.IntN.{ℤ, pos}
@@ -64,9 +64,3 @@ codewordsOf q a b c =
 -- the codewords of three samples in a class
 unfoldable pub triplet : QuantClass → List Float → Triplet
 triplet q samples = codewordsOf q (quantized q (getD samples 0 nan)) (quantized q (getD samples 1 nan)) (quantized q (getD samples 2 nan))
-
--- what a writer of codewords counts on: at most 3 of them, of at most 16 bits, and each is held by its bits
-pub record Held (t : Triplet) : Type 0 where
-  pub few : t .count ≤ 3
-  pub narrow : t .width ≤ 16
-  pub below : (i : ℕ) → getD (t .codewords) i 0 < 2 ^ t .width

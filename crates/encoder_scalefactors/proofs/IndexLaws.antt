@@ -172,7 +172,7 @@ pub index-is : (xs : List Float) (s : ℕ) (x : Float) (r : ℕ) → x ≡ large
 unfolding indexFrom
 index-is xs s x r e p =
     let q : r ≡ indexFrom xs s = p .whole ∙ ap pickOf e in
-    record { whole = q; small = p .small; worth = subst (Covering xs s) (sym q) (worth xs s) }
+    record { whole = q; most = p .small; worth = subst (Covering xs s) (sym q) (worth xs s) }
 
 -- ---- a granule and a frame
 

@@ -72,5 +72,5 @@ pub record PickIs (x : Float) (r : ℕ) : Type 0 where
 
 pub record IndexIs (samples : List Float) (start r : ℕ) : Type 0 where
   pub whole : r ≡ indexFrom samples start
-  pub small : r ≤ 62
+  pub most : r ≤ 62
   pub worth : Covering samples start r

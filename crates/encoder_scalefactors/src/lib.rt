@@ -4,6 +4,7 @@ ghost use Prim.Native.Nat.{_+_, _<_, _≤_};
 ghost use lib.ListN.{length};
 ghost use Rattle.tables.specs.Scalefactors.{scalefactors};
 ghost use Rattle.encoder_scalefactors.specs.Indices.{indexAt, granuleOf, indicesOf, PickIs, IndexIs};
+use tables::SCALEFACTOR_COUNT;
 
 // Granules of a frame, samples of a granule, and samples of a subband in a frame.
 pub const SCALEFACTOR_GRANULES: usize = 3;
@@ -19,12 +20,12 @@ pub fn pick_scalefactor_index(max_abs: f64) -> u8
 }
 
 // The same in the table that is lent. The multipliers descend: those that cover `max_abs` stand below those that do not.
-fn pick_in(table: &[f64; 63], max_abs: f64) -> u8
+fn pick_in(table: &[f64; SCALEFACTOR_COUNT], max_abs: f64) -> u8
     requires { ⌜ now table ≡ scalefactors ⌝ }
     ensures { λ r. ⌜ PickIs «max_abs» r ⌝ }
 {
     let mut low: usize = 0;
-    let mut high: usize = 63;
+    let mut high: usize = SCALEFACTOR_COUNT;
     while low + 1 < high {
         let middle = (low + high) / 2;
         if table[middle] >= max_abs {
@@ -37,7 +38,7 @@ fn pick_in(table: &[f64; 63], max_abs: f64) -> u8
 }
 
 // The index of a granule's twelve samples.
-pub fn extract_scalefactor_index(samples: &[f64; 12]) -> u8
+pub fn extract_scalefactor_index(samples: &[f64; GRANULE_LEN]) -> u8
     ensures { λ r. ⌜ IndexIs (now (samples .entry)) 0 r ⌝ }
 {
     let table = tables::scalefactors();
@@ -45,7 +46,10 @@ pub fn extract_scalefactor_index(samples: &[f64; 12]) -> u8
 }
 
 // The indices of a frame's samples, by granule and subband. Subbands from `sblimit` on have no samples to code, and the last index.
-pub fn compute_scalefactors(subband_samples: &[[f64; 36]; 32], sblimit: usize) -> [[u8; 32]; 3]
+pub fn compute_scalefactors(
+    subband_samples: &[[f64; SUBBAND_SAMPLES_PER_FRAME]; 32],
+    sblimit: usize,
+) -> [[u8; 32]; SCALEFACTOR_GRANULES]
     ensures { λ r. ⌜ r ≡ indicesOf (now («subband_samples» .entry)) sblimit ⌝ }
 {
     let table = tables::scalefactors();
@@ -56,7 +60,12 @@ pub fn compute_scalefactors(subband_samples: &[[f64; 36]; 32], sblimit: usize) -
 }
 
 // The indices of one granule, by subband.
-fn granule(table: &[f64; 63], subband_samples: &[[f64; 36]; 32], sblimit: usize, g: usize) -> [u8; 32]
+fn granule(
+    table: &[f64; SCALEFACTOR_COUNT],
+    subband_samples: &[[f64; SUBBAND_SAMPLES_PER_FRAME]; 32],
+    sblimit: usize,
+    g: usize,
+) -> [u8; 32]
     requires { ⌜ (now table ≡ scalefactors) × (g < 3) ⌝ }
     ensures { λ r. ⌜ r ≡ granuleOf (now («subband_samples» .entry)) sblimit g ⌝ }
 {
@@ -70,25 +79,31 @@ fn granule(table: &[f64; 63], subband_samples: &[[f64; 36]; 32], sblimit: usize,
 }
 
 // The index of one granule of one subband.
-fn index_at(table: &[f64; 63], subband_samples: &[[f64; 36]; 32], sblimit: usize, g: usize, sb: usize) -> u8
+fn index_at(
+    table: &[f64; SCALEFACTOR_COUNT],
+    subband_samples: &[[f64; SUBBAND_SAMPLES_PER_FRAME]; 32],
+    sblimit: usize,
+    g: usize,
+    sb: usize,
+) -> u8
     requires { ⌜ (now table ≡ scalefactors) × (g < 3) × (sb < 32) ⌝ }
     ensures { λ r. ⌜ r ≡ indexAt (now («subband_samples» .entry)) sblimit g sb ⌝ }
 {
     if sb < sblimit {
-        index_from(table, &subband_samples[sb], 12 * g)
+        index_from(table, &subband_samples[sb], GRANULE_LEN * g)
     } else {
         62
     }
 }
 
 // The index of the twelve samples from `start` on.
-fn index_from(table: &[f64; 63], samples: &[f64], start: usize) -> u8
+fn index_from(table: &[f64; SCALEFACTOR_COUNT], samples: &[f64], start: usize) -> u8
     requires { ⌜ (now table ≡ scalefactors) × (start + 12 ≤ length (now samples)) ⌝ }
     ensures { λ r. ⌜ IndexIs (now (samples .entry)) start r ⌝ }
 {
     let mut max_abs: f64 = 0.0;
     let mut k: usize = 0;
-    while k < 12 {
+    while k < GRANULE_LEN {
         max_abs = ieee_order::max(max_abs, ieee_order::abs(samples[start + k]));
         k = k + 1;
     }

@@ -20,7 +20,7 @@ use Rattle.encoder_scfsi.specs.declared.ScfsiSelection.{ScfsiSelection}
 use Rattle.encoder_scfsi.specs.Class.{classOf}
 use Rattle.encoder_scfsi.specs.TableC4.{Prescribed, prescribedFor, named, each, listed}
 use Rattle.encoder_scfsi.specs.Storage.{stored}
-use Rattle.encoder_scfsi.specs.Select.{adjusted, selection, bit, countOf, keep, marked, threeIn, SelectionRule, SelectionIs}
+use Rattle.encoder_scfsi.specs.Select.{adjusted, selection, bit, countOf, keep, marked, SelectionRule, SelectionIs}
 use Rattle.encoder_scfsi.proofs.TableLaws.{Ruled, rule}
 
 -- ---- the same function of each of three
@@ -90,23 +90,18 @@ adjusted-rule a b c class1 class2 p r =
     let f = named a b c in
     let s = ofCode (p .scfsi) in
     let m = each-marked f (p .pattern) (p .used) ∙ ap (map f) (r .marks) ∙ sym (each-sent f s (p .used)) in
+    let g = each-agrees f s (p .used) (r .agrees) in
     record {
       given = used-given a b c (p .used);
-      agrees = each-agrees f s (p .used) (r .agrees);
+      agrees = g;
       marks = m;
-      count = sym (marked-count (p .pattern) (each f (p .used))) ∙ ap length m ∙ sent-count s (each f (p .used))
+      count = sym (marked-count (p .pattern) (each f (p .used))) ∙ ap length m ∙ sent-count s (each f (p .used));
+      back = ap (restored s) m ∙ comes-back s (each f (p .used)) g
     }
 
 pub selection-rule : (a b c : ℕ) → SelectionRule a b c (selection a b c)
 unfolding selection
 selection-rule a b c = adjusted-rule a b c _ _ _ (rule (classOf (pos a -ℤ pos b)) (classOf (pos b -ℤ pos c)))
-
--- what the scfsi restores from the indices that are marked is the used ones
-pub restores : (a b c : ℕ) → let s = selection a b c in restored (s .scfsi) (marked (s .pattern) (threeIn (s .used))) ≡ threeIn (s .used)
-restores a b c =
-    let s = selection a b c in
-    let r = selection-rule a b c in
-    ap (restored (s .scfsi)) (r .marks) ∙ comes-back (s .scfsi) (threeIn (s .used)) (r .agrees)
 
 -- ---- what the code puts together from a row that it keeps
 

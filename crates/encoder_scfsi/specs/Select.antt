@@ -6,7 +6,7 @@ use mathlib.Core.List.{List, [], _∷_}
 use types.Run.{OneOf}
 use lib.IntN.{pos, _-ℤ_}
 use lib.ListN.{getD}
-use Rattle.audio_data.specs.Scfsi.{Three, three, Agrees, sent, ofCode, partsOf}
+use Rattle.audio_data.specs.Scfsi.{Three, three, Agrees, sent, restored, ofCode, partsOf}
 use Rattle.encoder_scfsi.specs.declared.DifferenceClass.{DifferenceClass}
 use Rattle.encoder_scfsi.specs.declared.TransmissionPattern.{TransmissionPattern}
 use Rattle.encoder_scfsi.specs.declared.ScfsiSelection.{ScfsiSelection}
@@ -57,13 +57,14 @@ pub record CountIs (p : TransmissionPattern) (r : ℕ) : Type 0 where
   pub whole : r ≡ countOf p
   pub most : r ≤ 3
 
--- Each used index is one of those given; the used indices agree with the sharing that the scfsi states, so they come back from those
--- sent; those marked are the ones that the scfsi sends, and so are as many.
+-- Each used index is one of those given; the used indices agree with the sharing that the scfsi states; those marked are the ones that
+-- the scfsi sends, and so are as many; and a decoder gets the used indices back from those marked.
 pub record SelectionRule (a b c : ℕ) (s : ScfsiSelection) : Type 0 where
   pub given : (i : ℕ) → i < 3 → OneOf (a ∷ b ∷ c ∷ []) (getD (s .used) i 0)
   pub agrees : Agrees (s .scfsi) (threeIn (s .used))
   pub marks : marked (s .pattern) (threeIn (s .used)) ≡ sent (s .scfsi) (threeIn (s .used))
   pub count : countOf (s .pattern) ≡ partsOf (s .scfsi)
+  pub back : restored (s .scfsi) (marked (s .pattern) (threeIn (s .used))) ≡ threeIn (s .used)
 
 pub record SelectionIs (a b c : ℕ) (r : ScfsiSelection) : Type 0 where
   pub whole : r ≡ selection a b c

@@ -5,7 +5,7 @@ ghost use Rattle.tables.specs.Scalefactors.{scalefactors};
 // A scalefactor index has 6 bits; 0 to 62 select a multiplier, and 63 is reserved.
 pub const SCALEFACTOR_COUNT: usize = 63;
 
-const SCALEFACTORS: [f64; 63] = [
+const SCALEFACTORS: [f64; SCALEFACTOR_COUNT] = [
     2.00000000000000,
     1.58740105196820,
     1.25992104989487,
@@ -71,7 +71,7 @@ const SCALEFACTORS: [f64; 63] = [
     0.00000120155435,];
 
 // The whole table, by value: whoever reads many entries keeps it and reads them there.
-pub fn scalefactors() -> [f64; 63]
+pub fn scalefactors() -> [f64; SCALEFACTOR_COUNT]
     ensures { λ r. ⌜ r ≡ scalefactors ⌝ }
 {
     SCALEFACTORS
