@@ -8,7 +8,7 @@ use native.Mathlib.Omega.{arith}
 use lib.Ieee.{Float}
 use lib.ListN.{length, replicate, length-set, getD-replicate}
 use Rattle.allocation_rounds.specs.declared.Run.{Run}
-use Rattle.allocation_rounds.specs.Rounds.{Rules, placeIn, closedIn, raiseAt, closeAt, round, ended, started}
+use Rattle.allocation_rounds.specs.Rounds.{Rules, price, placeIn, closedIn, raiseAt, closeAt, round, ended, started}
 use Rattle.allocation_rounds.specs.Promises.{charged, Counting, Over, Accounted, Spent}
 use Rattle.allocation_rounds.proofs.Fields.{either, sum, one-differs}
 use Rattle.allocation_rounds.proofs.Scan.{PickedIn, picked-open, closed-below}
@@ -124,3 +124,17 @@ module _ (R : Rules) (C : Counting R) (offered : ℕ) where
 
   pub end-spent : Spent R (ended R (started offered) .places) (ended R (started offered) .left)
   end-spent = spent (ended R (started offered)) end-way end-over
+
+-- ---- where no first step fits what is offered, nothing is bought
+
+module _ (R : Rules) (offered : ℕ) (dear : (f : ℕ) → f < R .fields → offered < price R f 0) where
+  pub end-untouched : (ended R (started offered) .places ≡ replicate 64 0) × (ended R (started offered) .left ≡ offered)
+  end-untouched =
+      ended-keeps R (λ s. (s .places ≡ replicate 64 0) × (s .left ≡ offered))
+      (λ s f r pick p paid.
+      let here : placeIn (s .places) f ≡ 0 = ap (λ (places : List ℕ). placeIn places f) (p .0) ∙ zeros 64 f in
+      let left = p .1 in
+      let d = dear f (pick .below) in
+      let l : price R f 0 ≤ s .left = rw here at paid in
+      absurd (omega arith))
+      (λ s f r pick p l. p) (started offered) (refl, refl)

@@ -2,16 +2,19 @@
 use Prim.Native.Nat.{ℕ}
 use mathlib.Core.Path.{_≡_}
 use mathlib.Core.Bool.{Bool, true, false}
-use mathlib.Core.List.{List, [], _∷_, map}
+use mathlib.Core.List.{List, [], _∷_, _++_}
+use mathlib.Core.Option.{Option, some}
 use lib.Ieee.{Float}
 use lib.ListN.{length, replicate}
 use Rattle.tables.specs.Decimal.{decimal}
 use Rattle.header.specs.declared.FrameHeader.{FrameHeader}
 use Rattle.header.specs.declared.Mode.{Mode}
-use Rattle.header.specs.declared.Mode.the-variants.{Stereo, JointStereo, SingleChannel}
+use Rattle.header.specs.declared.Mode.the-variants.{Stereo, JointStereo, DualChannel, SingleChannel}
 use Rattle.header.specs.declared.ModeExtension.the-variants.{Bound4}
+use Rattle.header.specs.Header.{frameSize}
 use Rattle.bitalloc.specs.declared.BitAllocTable.{BitAllocTable}
 use Rattle.bitalloc.specs.declared.BitAllocTable.the-variants.{B2a, B2b, B2c}
+use Rattle.bitalloc.specs.Select.{tableOf}
 use Rattle.encoder_scalefactors.specs.Indices.{pickOf}
 use Rattle.encoder_scfsi.specs.Select.{selection}
 use Rattle.encoder_bit_budget.specs.Budget.{BudgetAnswer, budgetOf, fixedIn}
@@ -20,17 +23,30 @@ use Rattle.encoder_bit_allocator.specs.Allocation.{allocationOf}
 
 -- ---- what is asked, and what is answered
 
+-- the signal-to-mask ratios of a question: one for every slot, or whatever they are
+pub data Ratios : Type 0 where
+  each : Float → Ratios
+  any : Ratios
+
 pub data Question : Type 0 where
-  -- the budget of a header
+  -- the table that a header selects
+  table : FrameHeader → Question
+  -- the bytes of its frame
+  bytes : FrameHeader → Question
+  -- its budget
   budget : FrameHeader → Question
-  -- the allocation of a header, with one signal-to-mask ratio for every slot and so many ancillary bits
-  allocation : FrameHeader → Float → ℕ → Question
+  -- its allocation, with these ratios and so many ancillary bits
+  allocation : FrameHeader → Ratios → ℕ → Question
   -- the indices used for three scalefactor indices
   used : ℕ → ℕ → ℕ → Question
   -- the scalefactor index of a largest magnitude
   index : Float → Question
 
 pub data Answer : Type 0 where
+  -- the table, or none
+  selected : Option BitAllocTable → Answer
+  -- of a frame's size: the answer's number, and the bytes
+  sized : ℕ → ℕ → Answer
   -- of a budget: the answer's number, the table, the bits of the frame, the fixed ones of them
   budgeted : ℕ → BitAllocTable → ℕ → ℕ → Answer
   -- of an allocation: the answer's number, the steps of the slots, the bits left; the bits of the frame, the fixed and the ancillary ones
@@ -44,12 +60,19 @@ ofBudget a = budgeted (a .answer) (a .budget .table) (a .budget .cb) (fixedIn (a
 abbrev ofAllocation : Allocation → Answer
 ofAllocation a = allocated (a .number) (a .audio .«nb_steps») (a .left) (a .cb) (a .fixed) (a .banc)
 
+-- the two rows of ratios, where `any` stands for those given
+abbrev rowsOf : List (List Float) → Ratios → List (List Float)
+rowsOf smr (each x) = replicate 2 (replicate 32 x)
+rowsOf smr any = smr
+
 -- the answer by the definitions
-unfoldable pub answerTo : Question → Answer
-answerTo (budget h) = ofBudget (budgetOf h)
-answerTo (allocation h smr banc) = ofAllocation (allocationOf h (replicate 2 (replicate 32 smr)) banc)
-answerTo (used a b c) = indices (selection a b c .used)
-answerTo (index x) = indices (pickOf x ∷ [])
+unfoldable pub answerTo : List (List Float) → Question → Answer
+answerTo smr (table h) = selected (tableOf h)
+answerTo smr (bytes h) = sized (frameSize h .answer) (frameSize h .bytes)
+answerTo smr (budget h) = ofBudget (budgetOf h)
+answerTo smr (allocation h ratios banc) = ofAllocation (allocationOf h (rowsOf smr ratios) banc)
+answerTo smr (used a b c) = indices (selection a b c .used)
+answerTo smr (index x) = indices (pickOf x ∷ [])
 
 -- ---- the table
 
@@ -73,51 +96,60 @@ frame lsf hz rate mode noCrc = record {
 }
 
 -- 48000 Hz, single channel, 32000 bit/s, with a CRC and without
-abbrev mono : FrameHeader
+abbrev pub mono : FrameHeader
 mono = frame false 48_000 32_000 SingleChannel false
 
 abbrev monoNoCrc : FrameHeader
 monoNoCrc = frame false 48_000 32_000 SingleChannel true
 
 -- slots without steps
-abbrev none : ℕ → List ℕ
-none slots = replicate slots 0
+abbrev pub idle : ℕ → List ℕ
+idle slots = replicate slots 0
+
+-- a case in each mode
+abbrev inEachMode : (Mode → Case) → List Case
+inEachMode f = f Stereo ∷ f JointStereo ∷ f DualChannel ∷ f SingleChannel ∷ []
 
 unfoldable pub cases : List Case
 unfolding decimal
 cases =
     -- single channel at 48000 Hz and 32000 bit/s with a CRC: table B2c, 768 bits, 74 of them fixed
     case (budget mono) (budgeted 0 B2c 768 74)
-    -- 694 ancillary bits beside them fill the frame: no slot has steps, at 0 dB or at 96
-    ∷ case (allocation mono (decimal 1 0_0) 694) (allocated 0 (none 64) 0 0 0 0)
-    ∷ case (allocation mono (decimal 1 96_0) 694) (allocated 0 (none 64) 0 0 0 0)
-    -- 695 do not fit: answer 4 with the three numbers
-    ∷ case (allocation mono (decimal 1 0_0) 695) (allocated 4 (none 64) 0 768 74 695)
+    -- 694 ancillary bits beside them fill the frame: no slot has steps, whatever the ratios
+    ∷ case (allocation mono any 694) (allocated 0 (idle 64) 0 0 0 0)
+    -- 695 do not fit: answer 4 with the three numbers, whatever the ratios
+    ∷ case (allocation mono any 695) (allocated 4 (idle 64) 0 768 74 695)
     -- without a CRC, every ratio 0 dB, 630 ancillary bits: the 80 bits left buy subband 0 its first step
-    ∷ case (allocation monoNoCrc (decimal 1 0_0) 630) (allocated 0 (3 ∷ none 63) 0 0 0 0)
+    ∷ case (allocation monoNoCrc (each (decimal 1 0_0)) 630) (allocated 0 (3 ∷ idle 63) 0 0 0 0)
     -- with 631 the 79 bits left buy none
-    ∷ case (allocation monoNoCrc (decimal 1 0_0) 631) (allocated 0 (none 64) 79 0 0 0)
+    ∷ case (allocation monoNoCrc (each (decimal 1 0_0)) 631) (allocated 0 (idle 64) 79 0 0 0)
     -- joint stereo with bound 4 at 44100 Hz and 192000 bit/s without a CRC: table B2b, 626 bytes, 142 bits fixed
     ∷ case (budget (frame false 44_100 192_000 JointStereo true)) (budgeted 0 B2b 5008 142)
     -- stereo at 44100 Hz and 193000 bit/s: an odd number of kbit/s selects no table
     ∷ case (budget (frame false 44_100 193_000 Stereo true)) (budgeted 1 B2a 0 0)
-    -- a sample rate of 0 at 32000 bit/s: with LSF there is a table and the sample rate is refused, without there is no table
-    ∷ case (budget (frame true 0 32_000 SingleChannel true)) (budgeted 2 B2a 0 0)
-    ∷ case (budget (frame false 0 32_000 SingleChannel true)) (budgeted 1 B2a 0 0)
+    -- single channel at 48000 Hz and 64999 bit/s, which counts as 64 kbit/s: table B2a, 194 bytes, of whose bits 120 are fixed
+    ∷ case (table (frame false 48_000 64_999 SingleChannel true)) (selected (some B2a))
+    ∷ case (bytes (frame false 48_000 64_999 SingleChannel true)) (sized 0 194)
+    ∷ case (budget (frame false 48_000 64_999 SingleChannel true)) (budgeted 0 B2a 1552 120)
     -- the scalefactor indices 10, 12, 11 become one; 0, 3, 3 stay; 0, 2, 4 become the smallest
     ∷ case (used 10 12 11) (indices (10 ∷ 10 ∷ 10 ∷ []))
     ∷ case (used 0 3 3) (indices (0 ∷ 3 ∷ 3 ∷ []))
     ∷ case (used 0 2 4) (indices (0 ∷ 0 ∷ 0 ∷ []))
-    -- a maximum of 1.0 has the scalefactor index 3, one of 0.0 the last
+    -- a maximum of 1.0 has the scalefactor index 3, one of 0.0 the last; 2.0 has the first, and so has 3.0, above every multiplier
     ∷ case (index (decimal 1 1_0)) (indices (3 ∷ []))
     ∷ case (index (decimal 1 0_0)) (indices (62 ∷ []))
-    ∷ []
+    ∷ case (index (decimal 1 2_0)) (indices (0 ∷ []))
+    ∷ case (index (decimal 1 3_0)) (indices (0 ∷ []))
+    -- a sample rate of 0 at 32000 bit/s, in every mode: with LSF there is a table and the sample rate is refused, without there is no table
+    ∷ inEachMode (λ mode. case (budget (frame true 0 32_000 mode true)) (budgeted 2 B2a 0 0))
+    ++ inEachMode (λ mode. case (budget (frame false 0 32_000 mode true)) (budgeted 1 B2a 0 0))
 
 -- ---- the claim
 
--- the definitions give what is expected, row by row
+-- the definitions give what is expected, row by row, whatever ratios stand for `any`
 unfoldable pub Hold : List Case → Type 0
-Hold cs = map (λ c. answerTo (c .asked)) cs ≡ map (λ c. c .expected) cs
+Hold [] = Unit {0}
+Hold (c ∷ cs) = ((smr : List (List Float)) → answerTo smr (c .asked) ≡ c .expected) × Hold cs
 
 -- what `count` promises
 pub record CasesHold (r : ℕ) : Type 0 where

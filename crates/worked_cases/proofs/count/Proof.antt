@@ -1,6 +1,13 @@
--- `worked_cases::count` meets its contract: antt computes the answers of the whole table.
-use mathlib.Core.Path.{refl}
-use lib.Ieee.{le, lt, sub}
+-- `worked_cases::count` meets its contract: antt computes the answers of the table, but for the one whose ratios decide nothing by a law.
+use mathlib.Core.Path.{_≡_, refl, ap₂}
+use mathlib.Core.List.{List}
+use Prim.Native.Nat.{ℕ, _<_}
+use lib.Dec.{ltb, ltb→lt}
+use lib.Ieee.{Float, le, lt, sub}
+use lib.ListN.{take, drop}
+use Rattle.tables.proofs.Rule.{below}
+use Rattle.header.specs.Header.{frameSize}
+use Rattle.bitalloc.specs.declared.BitAllocTable.the-variants.{B2c}
 use Rattle.tables.specs.Scalefactors.{scalefactors}
 use Rattle.tables.specs.Search.{oneOf}
 use Rattle.bitalloc.specs.Tables.{nbalOf, rowOf}
@@ -12,19 +19,50 @@ use Rattle.encoder_scfsi.specs.Select.{selection}
 use Rattle.encoder_bit_budget.specs.Snr.{snrOf}
 use Rattle.encoder_bit_budget.specs.Layout.{fieldsOf}
 use Rattle.encoder_bit_budget.specs.Budget.{budgetOf}
-use Rattle.allocation_rounds.specs.Rounds.{ended}
-use Rattle.encoder_bit_allocator.specs.Allocation.{allocationOf}
-use Rattle.worked_cases.specs.Cases.{cases, answerTo, Hold}
+use Rattle.allocation_rounds.specs.Rounds.{Rules, price, ended}
+use Rattle.allocation_rounds.proofs.OnTheWay.{end-untouched}
+use Rattle.encoder_bit_allocator.specs.Entries.{rulesOf, entriesOf}
+use Rattle.encoder_bit_allocator.specs.Allocation.{stepsOf, allocationOf}
+use Rattle.worked_cases.specs.Cases.{cases, any, allocation, allocated, mono, idle, answerTo, Hold}
 use Rattle.worked_cases.proofs.count.Statement.{statement}
 use Rattle.worked_cases.proofs.count.Tie as tie
 
-computed : Hold cases
-unfolding cases Hold answerTo oneOf tableOf nbalOf rowOf sampleBits snrOf fieldsOf budgetOf ended filler allocationOf selection scalefactors pickOf le lt sub
-computed = refl
+-- ---- a frame that the fixed and the ancillary bits fill
+
+-- what the rounds go by
+abbrev rules : List (List Float) → Rules
+rules smr = rulesOf (entriesOf mono B2c smr)
+
+-- every first step has a price, whatever the ratios
+dear : (smr : List (List Float)) (f : ℕ) → f < rules smr .fields → 0 < price (rules smr) f 0
+unfolding rulesOf entriesOf fieldsOf rowOf sampleBits
+dear smr f h = ltb→lt 0 _ (below 8 (λ f. ltb 0 (price (rules smr) f 0)) tt f h)
+
+-- so that nothing is bought
+filled : (smr : List (List Float)) → answerTo smr (allocation mono any 694) ≡ allocated 0 (idle 64) 0 0 0 0
+unfolding answerTo oneOf tableOf nbalOf rowOf sampleBits fieldsOf budgetOf allocationOf
+filled smr =
+    let n = end-untouched (rules smr) 0 (dear smr) in
+    ap₂ (λ (places : List ℕ) (left : ℕ). allocated 0 (stepsOf (fieldsOf mono B2c) B2c places) left 0 0 0) (n .0) (n .1)
+
+-- ---- the table
+
+-- the cases before and behind it: antt computes the answers
+first-case : Hold (take 1 cases)
+unfolding cases Hold answerTo oneOf tableOf nbalOf rowOf sampleBits snrOf fieldsOf budgetOf frameSize filler allocationOf selection scalefactors pickOf le lt sub
+first-case = (λ smr. refl, tt)
+
+other-cases : Hold (drop 2 cases)
+unfolding cases Hold answerTo ended oneOf tableOf nbalOf rowOf sampleBits snrOf fieldsOf budgetOf frameSize filler allocationOf selection scalefactors pickOf le lt sub
+other-cases = (λ smr. refl, (λ smr. refl, (λ smr. refl, (λ smr. refl, (λ smr. refl, (λ smr. refl, (λ smr. refl, (λ smr. refl, (λ smr. refl, (λ smr. refl, (λ smr. refl, (λ smr. refl, (λ smr. refl, (λ smr. refl, (λ smr. refl, (λ smr. refl, (λ smr. refl, (λ smr. refl, (λ smr. refl, (λ smr. refl, (λ smr. refl, (λ smr. refl, (λ smr. refl, tt)))))))))))))))))))))))
+
+holds : Hold cases
+unfolding cases Hold
+holds = (first-case .0, (filled, other-cases))
 
 returns : tie.Need-returns
 unfolding cases
-returns c = record { whole = refl; hold = computed }
+returns c = record { whole = refl; hold = holds }
 
 pub count-spec : {M : Type 1} → statement M
 count-spec = tie.close (tie.spec returns)
