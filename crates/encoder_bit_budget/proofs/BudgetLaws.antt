@@ -93,7 +93,6 @@ channels-small SingleChannel = lit≤ tt
 bounds : (h : FrameHeader) (t : BitAllocTable) → frameBytes h ≤ 536_870_911 → Bounded (budgetUnder h t)
 unfolding budgetUnder
 bounds h t l = record {
-  cb = omega arith;
   fixed = omega (arith, crc-small (h .«protection_bit»), allocation-small h t);
   sblimit = sblimit-small t;
   bound = bound-small (h .mode) (boundOf (h .«mode_extension»)) (sblimitOf t);

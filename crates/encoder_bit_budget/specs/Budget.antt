@@ -1,5 +1,5 @@
 -- The bits of a frame before any is spent on samples: ISO/IEC 11172-3 C.1.5.2.7, cb, bhdr, bcrc and bbal.
-use Prim.Native.Nat.{ℕ, zero, suc, _+_, _*_, _^_, _≤_, _<_}
+use Prim.Native.Nat.{ℕ, zero, suc, _+_, _*_, _≤_}
 use mathlib.Core.Path.{_≡_}
 use mathlib.Core.Bool.{Bool, true, false, cond}
 use mathlib.Core.List.{List, [], _∷_}
@@ -124,7 +124,6 @@ availableOf h banc =
 
 -- an accepted budget besides: the bounds that callers add with
 pub record Bounded (b : FixedBitBudget) : Type 0 where
-  pub cb : b .cb < 2 ^ 32
   pub fixed : fixedIn b ≤ 236
   pub sblimit : b .sblimit ≤ 30
   pub bound : b .bound ≤ b .sblimit

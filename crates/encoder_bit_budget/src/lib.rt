@@ -164,14 +164,14 @@ pub fn fixed_bit_budget(header: FrameHeader) -> Budget
 
 // The CRC is there where the protection bit is 0 (2.4.2.3).
 fn crc_bits(protection_bit: bool) -> u32
-    ensures { λ r. ⌜ (r ≡ cond «protection_bit» 0 16) × (r ≤ 16) ⌝ }
+    ensures { λ r. ⌜ r ≡ cond «protection_bit» 0 16 ⌝ }
 {
     if protection_bit { 0 } else { FixedBitBudget::CRC_BITS }
 }
 
 // From which subband on the channels share a field: only in joint stereo, as the mode extension says.
 fn shared_from(header: FrameHeader, sblimit: usize) -> usize
-    ensures { λ r. ⌜ (r ≡ sharedFrom (header .mode) (boundOf (header .«mode_extension»)) sblimit) × (r ≤ sblimit) ⌝ }
+    ensures { λ r. ⌜ r ≡ sharedFrom (header .mode) (boundOf (header .«mode_extension»)) sblimit ⌝ }
 {
     let mode = header.mode;
     match mode {

@@ -71,8 +71,8 @@ returns-4 c =
     let named = sym (s .before .before .select-table .ensures) ∙ ap tableIn (s .selected .given .1) in
     let e = sized _ _ (ap sizeOf (sym (z .size .given .1)) ∙ z .before .before .frame-size-bytes .ensures .whole) in
     accepted _ _ named _ (e .0) (subst (λ (n : ℕ). n ≤ 536_870_911) (e .1) (c .before .before .before .before .before .if1 .left))
-    (filled _ _ named _ (ap (λ (n : ℕ). 8 * n) (e .1)) refl (c .before .crc-bits .ensures .0)
-    (c .before .before .before .before .sblimit .ensures .0) (c .before .before .before .shared-from .ensures .0)
+    (filled _ _ named _ (ap (λ (n : ℕ). 8 * n) (e .1)) refl (c .before .crc-bits .ensures)
+    (c .before .before .before .before .sblimit .ensures .0) (c .before .before .before .shared-from .ensures)
     (c .before .before .channels .ensures .whole) refl (c .allocation-bits .ensures))
 
 pub fixed-bit-budget-spec : {M : Type 1} → statement M

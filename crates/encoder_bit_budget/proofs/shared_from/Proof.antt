@@ -23,10 +23,10 @@ returns : tie.Need-returns
 returns c = search needs
 
 returns-2 : tie.Need-returns-2
-returns-2 c = (rw (c .before .before .enum-told2 .given .1) (omega arith), search needs)
+returns-2 c = rw (c .before .before .enum-told2 .given .1) (omega arith)
 
 returns-3 : tie.Need-returns-3
-returns-3 c = (rw (c .before .before .enum-told2 .given .1) (omega arith), search needs)
+returns-3 c = rw (c .before .before .enum-told2 .given .1) (omega arith)
 
 returns-4 : tie.Need-returns-4
 returns-4 c = search needs
