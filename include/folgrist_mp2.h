@@ -154,9 +154,9 @@ uint32_t folgrist_class_of_quantization(uint32_t steps, double *cd, size_t cd_le
 /* Returns a value: the bits of a subband's 36 samples in a frame, 0 where there is no class of so many steps. */
 uint32_t folgrist_sample_bits_for(uint32_t steps);
 
-/* The signal-to-noise ratio of a number of steps (Table C.5), of which a signal-to-mask ratio is taken off to have the mask-to-noise ratio.
- * out, 1 element: dB; 0 steps have 0 dB.
- * Answers 0, 5, 98. */
+/* The signal-to-noise ratio of a number of steps (Table C.5); less the signal-to-mask ratio it is the mask-to-noise ratio. out, 1 element: dB,
+ * 0 for 0 steps.
+ * Answers 0, 5 (neither 0 nor the steps of a class), 98. */
 uint32_t folgrist_snr_db(uint32_t steps, double *out, size_t out_len);
 
 /* ---- scalefactors ---- */
