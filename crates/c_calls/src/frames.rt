@@ -34,9 +34,7 @@ fn select_table(h: Head) {
         h.mode_extension,
         &mut out,
     );
-    show::answer(b"select_table", number);
-    show::words(&out);
-    show::end();
+    show::words(b"select_table", number, &out);
 }
 
 fn frame_size_bytes(h: Head) {
@@ -51,9 +49,7 @@ fn frame_size_bytes(h: Head) {
         h.mode_extension,
         &mut out,
     );
-    show::answer(b"frame_size_bytes", number);
-    show::value(out[0]);
-    show::end();
+    show::one(b"frame_size_bytes", number, out[0]);
 }
 
 fn fixed_bit_budget(h: Head) {
@@ -68,9 +64,7 @@ fn fixed_bit_budget(h: Head) {
         h.mode_extension,
         &mut out,
     );
-    show::answer(b"fixed_bit_budget", number);
-    show::words(&out);
-    show::end();
+    show::words(b"fixed_bit_budget", number, &out);
 }
 
 fn available_data_bits(h: Head, banc: u32) {
@@ -86,9 +80,7 @@ fn available_data_bits(h: Head, banc: u32) {
         banc,
         &mut out,
     );
-    show::answer(b"available_data_bits", number);
-    show::offered(out[0]);
-    show::end();
+    show::one(b"available_data_bits", number, show::not_below_zero(out[0]));
 }
 
 fn demand_bits(h: Head) {
@@ -105,9 +97,7 @@ fn demand_bits(h: Head) {
         &smr_db,
         &mut out,
     );
-    show::answer(b"demand_bits", number);
-    show::value(out[0]);
-    show::end();
+    show::one(b"demand_bits", number, out[0]);
 }
 
 fn allocate_bits(h: Head, banc: u32) {
@@ -127,10 +117,8 @@ fn allocate_bits(h: Head, banc: u32) {
         &mut steps,
         &mut out,
     );
-    show::answer(b"allocate_bits", number);
-    show::words(&steps);
-    show::words(&out);
-    show::end();
+    show::words(b"allocate_bits", number, &steps);
+    show::words(b"allocate_bits, out", number, &out);
 }
 
 // From 30 dB down by three quarters of one from slot to slot.

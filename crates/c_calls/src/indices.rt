@@ -14,32 +14,28 @@ pub fn ask() {
 }
 
 fn pick_scalefactor_index(max_abs: f64) {
-    show::answer(b"pick_scalefactor_index", scalefactors::folgrist_pick_scalefactor_index(max_abs) as u32);
-    show::end();
+    let index = scalefactors::folgrist_pick_scalefactor_index(max_abs);
+    show::returned(b"pick_scalefactor_index", index as u32);
 }
 
 fn extract_scalefactor_index() {
-    let granule = [0.1, -0.2, 0.3, -0.4, 0.5, -0.6, 0.5, -0.4, 0.3, -0.2, 0.1, 0.0];
+    let frame = falling();
     let mut out = [9u8; 1];
-    let number = scalefactors::folgrist_extract_scalefactor_index(&granule, &mut out);
-    show::answer(b"extract_scalefactor_index", number);
-    show::bytes(&out);
-    show::end();
+    let number = scalefactors::folgrist_extract_scalefactor_index(&frame, &mut out);
+    show::bytes(b"extract_scalefactor_index", number, &out);
 }
 
 fn compute_scalefactors(limit: u64) {
     let frame = falling();
     let mut out = [9u8; 96];
     let number = scalefactors::folgrist_compute_scalefactors(&frame, limit, &mut out);
-    show::answer(b"compute_scalefactors", number);
-    show::bytes(&out);
-    show::end();
+    show::bytes(b"compute_scalefactors", number, &out);
 }
 
-// 1152 samples that fall from 1.9 by the same factor from one to the next.
+// 1152 samples that fall from 0.9 by the same factor from one to the next.
 fn falling() -> [f64; 1152] {
     let mut frame = [0.0; 1152];
-    let mut sample = 1.9;
+    let mut sample = 0.9;
     let mut i: usize = 0;
     while i < 1152 {
         frame[i] = sample;
@@ -52,23 +48,17 @@ fn falling() -> [f64; 1152] {
 fn select_scfsi(a: u8, b: u8, c: u8) {
     let mut out = [9u8; 9];
     let number = scalefactors::folgrist_select_scfsi(a, b, c, &mut out);
-    show::answer(b"select_scfsi", number);
-    show::bytes(&out);
-    show::end();
+    show::bytes(b"select_scfsi", number, &out);
 }
 
 fn quantize_sample(steps: u32, sample: f64) {
     let mut out = [9u32; 1];
     let number = samples::folgrist_quantize_sample(steps, sample, &mut out);
-    show::answer(b"quantize_sample", number);
-    show::words(&out);
-    show::end();
+    show::words(b"quantize_sample", number, &out);
 }
 
 fn write_triplet(steps: u32, a: f64, b: f64, c: f64) {
     let mut out = [9u32; 5];
     let number = samples::folgrist_write_triplet(steps, a, b, c, &mut out);
-    show::answer(b"write_triplet", number);
-    show::words(&out);
-    show::end();
+    show::words(b"write_triplet", number, &out);
 }

@@ -56,6 +56,5 @@ fn largest() -> Head {
 }
 
 fn version() {
-    show::answer(b"version", folgrist_mp2::version::folgrist_version());
-    show::end();
+    show::returned(b"version", folgrist_mp2::version::folgrist_version());
 }

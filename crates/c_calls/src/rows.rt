@@ -14,47 +14,35 @@ pub fn ask() {
 fn table_limits(table: u8, sb: u64) {
     let mut out = [9u32; 2];
     let number = table_rows::folgrist_table_limits(table, sb, &mut out);
-    show::answer(b"table_limits", number);
-    show::words(&out);
-    show::end();
+    show::words(b"table_limits", number, &out);
 }
 
 fn nb_steps(table: u8, sb: u64, index: u32) {
     let mut out = [9u32; 1];
     let number = table_rows::folgrist_nb_steps(table, sb, index, &mut out);
-    show::answer(b"nb_steps", number);
-    show::words(&out);
-    show::end();
+    show::words(b"nb_steps", number, &out);
 }
 
 fn allocation_index(table: u8, sb: u64, steps: u32) {
     let mut out = [9u32; 1];
     let number = table_rows::folgrist_allocation_index(table, sb, steps, &mut out);
-    show::answer(b"allocation_index", number);
-    show::words(&out);
-    show::end();
+    show::words(b"allocation_index", number, &out);
 }
 
 fn class_of_quantization(steps: u32) {
     let mut cd = [9.0; 2];
     let mut out = [9u32; 4];
     let number = table_rows::folgrist_class_of_quantization(steps, &mut cd, &mut out);
-    show::answer(b"class_of_quantization", number);
-    show::double(cd[0]);
-    show::double(cd[1]);
-    show::words(&out);
-    show::end();
+    show::words(b"class_of_quantization", number, &out);
+    show::doubles(b"class_of_quantization, cd", number, &cd);
 }
 
 fn sample_bits_for(steps: u32) {
-    show::answer(b"sample_bits_for", table_rows::folgrist_sample_bits_for(steps));
-    show::end();
+    show::returned(b"sample_bits_for", table_rows::folgrist_sample_bits_for(steps));
 }
 
 fn snr_db(steps: u32) {
     let mut out = [9.0; 1];
     let number = table_rows::folgrist_snr_db(steps, &mut out);
-    show::answer(b"snr_db", number);
-    show::double(out[0]);
-    show::end();
+    show::doubles(b"snr_db", number, &out);
 }

@@ -1,10 +1,10 @@
--- `c_calls::show::bytes` meets its contract: every element read is one of the slice's.
+-- `c_calls::show::all_doubles` meets its contract: every element read is one of the slice's.
 use Prim.Native.Nat.{_≤_, _-_}
 use lib.ListN.{length}
 use native.Mathlib.Omega.{arith}
 use borrow.Author.Needs.{needs}
-use Rattle.c_calls.proofs.show.bytes.Statement.{statement}
-use Rattle.c_calls.proofs.show.bytes.Tie as tie
+use Rattle.c_calls.proofs.show.all_doubles.Statement.{statement}
+use Rattle.c_calls.proofs.show.all_doubles.Tie as tie
 
 abbrev Inv-loop : tie.InvT-loop
 Inv-loop values i₀ i = i ≤ length values
@@ -15,11 +15,17 @@ abbrev μ-loop : tie.MeasureT-loop
 loop-holds : tie.Need-loop-holds Inv-loop μ-loop
 loop-holds c = omega arith
 
-shared-slice-read-byte : tie.Need-shared-slice-read-byte Inv-loop μ-loop
-shared-slice-read-byte c = search needs
+mul-bits : tie.Need-mul-bits Inv-loop μ-loop
+mul-bits c = search needs
 
-byte-requires : tie.Need-byte-requires Inv-loop μ-loop
-byte-requires c κs = search needs
+shared-slice-read-bits : tie.Need-shared-slice-read-bits Inv-loop μ-loop
+shared-slice-read-bits c = search needs
+
+bits-requires : tie.Need-bits-requires Inv-loop μ-loop
+bits-requires c κs = search needs
+
+value-requires : tie.Need-value-requires Inv-loop μ-loop
+value-requires c κs = search needs
 
 add-i : tie.Need-add-i Inv-loop μ-loop
 add-i c = search needs
@@ -33,15 +39,17 @@ loop-again c = omega arith
 returns : tie.Need-returns Inv-loop μ-loop
 returns c = search needs
 
-pub bytes-spec : {M : Type 1} → statement M
-bytes-spec =
+pub all-doubles-spec : {M : Type 1} → statement M
+all-doubles-spec =
     tie.close
     (tie.spec
     Inv-loop
     μ-loop
     loop-holds
-    shared-slice-read-byte
-    byte-requires
+    mul-bits
+    shared-slice-read-bits
+    bits-requires
+    value-requires
     add-i
     loop-less
     loop-again

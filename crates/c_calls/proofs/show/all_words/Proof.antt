@@ -1,10 +1,10 @@
--- `c_calls::show::words` meets its contract: every element read is one of the slice's.
+-- `c_calls::show::all_words` meets its contract: every element read is one of the slice's.
 use Prim.Native.Nat.{_≤_, _-_}
 use lib.ListN.{length}
 use native.Mathlib.Omega.{arith}
 use borrow.Author.Needs.{needs}
-use Rattle.c_calls.proofs.show.words.Statement.{statement}
-use Rattle.c_calls.proofs.show.words.Tie as tie
+use Rattle.c_calls.proofs.show.all_words.Statement.{statement}
+use Rattle.c_calls.proofs.show.all_words.Tie as tie
 
 abbrev Inv-loop : tie.InvT-loop
 Inv-loop values i₀ i = i ≤ length values
@@ -36,8 +36,8 @@ loop-again c = omega arith
 returns : tie.Need-returns Inv-loop μ-loop
 returns c = search needs
 
-pub words-spec : {M : Type 1} → statement M
-words-spec =
+pub all-words-spec : {M : Type 1} → statement M
+all-words-spec =
     tie.close
     (tie.spec
     Inv-loop
