@@ -38,7 +38,10 @@ fn class_of_quantization(steps: u32) {
 }
 
 fn sample_bits_for(steps: u32) {
-    show::returned(b"sample_bits_for", table_rows::folgrist_sample_bits_for(steps));
+    show::returned(
+        b"sample_bits_for",
+        table_rows::folgrist_sample_bits_for(steps),
+    );
 }
 
 fn snr_db(steps: u32) {

@@ -14,10 +14,11 @@ use Rattle.c_calls.proofs.show.not_below_zero.Tie as tie
 cast-result : tie.Need-cast-result
 cast-result c =
     let x = c .before .args .n in
-    let f = c .before .fits .n in
-    (yes-nonNeg {z = toZ w64 (ofZ w64 x)} (leZ-yes (subst T (sym (c .if1 .taken)) tt)),
-    subst (λ (z : ℤ). Fits w64 (natAbs z)) (sym (toZ-ofZ w64 x f))
-    (record { fits = lt-of-le-of-lt (natAbs-le x (f .sfits)) (lit< tt) }))
+    let f = c .before .fits .n in (
+      yes-nonNeg {z = toZ w64 (ofZ w64 x)} (leZ-yes (subst T (sym (c .if1 .taken)) tt)),
+      subst (λ (z : ℤ). Fits w64 (natAbs z)) (sym (toZ-ofZ w64 x f))
+          (record { fits = lt-of-le-of-lt (natAbs-le x (f .sfits)) (lit< tt) }),
+    )
 
 returns : tie.Need-returns
 returns c = search needs
