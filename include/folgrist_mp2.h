@@ -38,6 +38,11 @@
 extern "C" {
 #endif
 
+/* The version of what is declared here; folgrist_version() has that of the archive. A change of a signature raises the minor number. */
+#define FOLGRIST_VERSION_MAJOR 1
+#define FOLGRIST_VERSION_MINOR 0
+#define FOLGRIST_VERSION_PATCH 0
+
 /* The numbers of answers. */
 enum folgrist_answer {
     FOLGRIST_ACCEPTED = 0,
@@ -82,6 +87,9 @@ enum folgrist_scfsi {
     FOLGRIST_SHARE_ALL = 2,         /* one for all three */
     FOLGRIST_SHARE_0_THEN_12 = 3    /* two: granule 0, then 1 and 2 share */
 };
+
+/* Returns a value: the version of the archive, 10000 * major + 100 * minor + patch. */
+uint32_t folgrist_version(void);
 
 /* ---- the frame ---- */
 
@@ -145,6 +153,11 @@ uint32_t folgrist_class_of_quantization(uint32_t steps, double *cd, size_t cd_le
 
 /* Returns a value: the bits of a subband's 36 samples in a frame, 0 where there is no class of so many steps. */
 uint32_t folgrist_sample_bits_for(uint32_t steps);
+
+/* The signal-to-noise ratio of a number of steps (Table C.5); less the signal-to-mask ratio it is the mask-to-noise ratio. out, 1 element: dB,
+ * 0 for 0 steps.
+ * Answers 0, 5 (neither 0 nor the steps of a class), 98. */
+uint32_t folgrist_snr_db(uint32_t steps, double *out, size_t out_len);
 
 /* ---- scalefactors ---- */
 

@@ -1,3 +1,4 @@
 pub mod Answers
 pub mod Arguments
 pub mod Replies
+pub mod Version

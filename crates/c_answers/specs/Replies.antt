@@ -30,6 +30,7 @@ use Rattle.encoder_bit_budget.specs.declared.Budget.{Budget}
 use Rattle.encoder_bit_budget.specs.declared.Budget.the-variants.{Ok}
 use Rattle.encoder_bit_budget.specs.Budget.{isSome, budgetOf, availableOf, Bounded}
 use Rattle.encoder_bit_budget.specs.Demand.{demandOf}
+use Rattle.encoder_bit_budget.specs.Snr.{snrOf}
 use Rattle.encoder_bit_allocator.specs.declared.Allocation.{Allocation}
 use Rattle.encoder_bit_allocator.specs.Allocation.{allocationOf}
 use Rattle.c_answers.specs.Answers.{Reply, reply, orNothing}
@@ -128,6 +129,18 @@ figuresOf q =
 
 abbrev pub classFigures : ℕ → Reply ℕ
 classFigures steps = reply (number (classFound (classOf steps) ∷ [])) (figuresOf (classOr (classOf steps)))
+
+-- question 5: Table C.5 has a ratio
+abbrev pub ratioListed : Option Float → Question
+ratioListed o = record { yes = isSome o; otherwise = 5 }
+
+-- the ratio in dB, and 0 where there is none
+abbrev pub ratioOr : Option Float → Float
+ratioOr none = fin false 0 (pos 0)
+ratioOr (some x) = x
+
+abbrev pub ratioFound : ℕ → Reply Float
+ratioFound steps = reply (number (ratioListed (snrOf steps) ∷ [])) (ratioOr (snrOf steps) ∷ [])
 
 -- ---- of samples
 

@@ -5,11 +5,13 @@ ghost use Rattle.header.specs.Header.{sizeOf};
 ghost use Rattle.header.specs.Questions.{number};
 ghost use Rattle.bitalloc.specs.Options.{tableIn, classIn};
 ghost use Rattle.encoder_samples.specs.Entries.{codedOf};
+ghost use Rattle.encoder_bit_budget.specs.Snr.{ratioIn};
 ghost use Rattle.c_answers.specs.Replies.{tableFound, tableOr, limitsOf, allocationBits};
-ghost use Rattle.c_answers.specs.Replies.{classFound, classOr, figuresOf, tripletValues, selectionValues};
+ghost use Rattle.c_answers.specs.Replies.{classFound, classOr, figuresOf, ratioListed, ratioOr, tripletValues, selectionValues};
 use crate::arguments;
 use bitalloc::{BitAllocTable, OptionClass, OptionTable};
 use encoder_bit_allocator::Allocation;
+use encoder_bit_budget::OptionF64;
 use encoder_samples::{SampleCode, Triplet};
 use encoder_scfsi::ScfsiSelection;
 use header::FrameSize;
@@ -104,6 +106,26 @@ pub fn figures(found: OptionClass) -> [u32; 4]
             class.bits_per_sample(),
         ],
         OptionClass::None => [0; 4],
+    }
+}
+
+// 0 with a ratio, 5 without.
+pub fn ratio_number(found: OptionF64) -> u32
+    ensures { λ r. ⌜ r ≡ number (ratioListed (ratioIn found) ∷ []) ⌝ }
+{
+    match found {
+        OptionF64::Some(_) => 0,
+        OptionF64::None => 5,
+    }
+}
+
+// The ratio in dB, 0 without.
+pub fn ratio_db(found: OptionF64) -> f64
+    ensures { λ r. ⌜ r ≡ ratioOr (ratioIn found) ⌝ }
+{
+    match found {
+        OptionF64::Some(db) => db,
+        OptionF64::None => 0.0,
     }
 }
 

@@ -4,4 +4,5 @@ pub mod frame;
 pub mod samples;
 pub mod scalefactors;
 pub mod table_rows;
+pub mod version;
 mod writing;

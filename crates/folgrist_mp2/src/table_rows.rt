@@ -6,7 +6,7 @@ ghost use lib.ListN.{length};
 ghost use Rattle.bitalloc.specs.Classes.{SampleBitsAre};
 ghost use Rattle.c_answers.specs.Answers.{asked, answered, Answers};
 ghost use Rattle.c_answers.specs.Arguments.{tableMeant};
-ghost use Rattle.c_answers.specs.Replies.{limitsAt, stepsFound, indexFound, coefficients, classFigures};
+ghost use Rattle.c_answers.specs.Replies.{limitsAt, stepsFound, indexFound, coefficients, classFigures, ratioFound};
 use c_answers::arguments;
 use c_answers::arguments::TableGiven;
 use c_answers::parts;
@@ -114,4 +114,21 @@ pub extern "C" fn folgrist_sample_bits_for(steps: u32) -> u32
     ensures { λ r. ⌜ SampleBitsAre steps r ⌝ }
 {
     bitalloc::sample_bits_for(steps)
+}
+
+// The signal-to-noise ratio of a number of steps.
+#[no_mangle]
+pub extern "C" fn folgrist_snr_db(steps: u32, out: &mut [f64]) -> u32
+    ensures { λ r. ⌜ Answers
+        (answered
+          (asked (ltb (length (now (out .entry))) 1) (some steps))
+          ratioFound)
+        (now (out .entry)) r (now (out .exit)) ⌝ }
+{
+    if out.len() < 1 {
+        return 98;
+    }
+    let found = encoder_bit_budget::snr_db(steps);
+    out[0] = parts::ratio_db(found);
+    parts::ratio_number(found)
 }

@@ -1,4 +1,4 @@
-//! The library's functions, as its header declares them: a slice is a pointer and a length.
+//! The library's functions, as its header declares them: a slice is a pointer and a length. `folgrist_version` has no counterpart.
 //! A call is safe where each pointer is of live memory with room for the length beside it.
 
 /// H, as the arguments of a call.
@@ -49,6 +49,7 @@ unsafe extern "C" {
         length: usize,
     ) -> u32;
     pub fn folgrist_sample_bits_for(steps: u32) -> u32;
+    pub fn folgrist_snr_db(steps: u32, out: *mut f64, length: usize) -> u32;
     pub fn folgrist_pick_scalefactor_index(max_abs: f64) -> u8;
     pub fn folgrist_extract_scalefactor_index(
         samples: *const f64,

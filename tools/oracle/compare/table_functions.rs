@@ -1,4 +1,4 @@
-//! Lookups: rows of the tables, classes of quantization.
+//! Lookups: rows of the tables, classes of quantization, signal-to-noise ratios.
 
 use crate::case::{Argument, Case, Function, Memories, NOTHING_THERE, Out, Sort};
 use crate::library::*;
@@ -6,7 +6,7 @@ use questions::random::Random;
 use questions::steps;
 use questions::table_kinds::table_of;
 use reference::bitalloc::class_of_quantization;
-use reference::encoder_bit_allocator::sample_bits_for;
+use reference::encoder_bit_allocator::{sample_bits_for, snr_db};
 use std::sync::LazyLock;
 
 const TABLE: Argument = Argument {
@@ -34,7 +34,7 @@ const fn out(count: usize) -> Out {
     }
 }
 
-pub const FUNCTIONS: [Function; 5] = [
+pub const FUNCTIONS: [Function; 6] = [
     Function {
         name: "table_limits",
         share: 3,
@@ -105,7 +105,7 @@ pub const FUNCTIONS: [Function; 5] = [
     },
     Function {
         name: "class_of_quantization",
-        share: 4,
+        share: 3,
         arguments: &[STEPS],
         doubles: 0,
         outs: &[
@@ -126,13 +126,33 @@ pub const FUNCTIONS: [Function; 5] = [
     },
     Function {
         name: "sample_bits_for",
-        share: 4,
+        share: 3,
         arguments: &[STEPS],
         doubles: 0,
         outs: &[],
         draw: |case, random| case.numbers[0] = draw_steps(random),
         library: |case, _| unsafe { folgrist_sample_bits_for(case.numbers[0] as u32) },
         rust: |case, _| sample_bits_for(case.numbers[0] as u32),
+    },
+    Function {
+        name: "snr_db",
+        share: 2,
+        arguments: &[STEPS],
+        doubles: 0,
+        outs: &[Out {
+            name: "out",
+            width: 8,
+            count: 1,
+        }],
+        draw: |case, random| case.numbers[0] = draw_listed(random),
+        library: |case, [out, _]| unsafe {
+            folgrist_snr_db(case.numbers[0] as u32, out.pointer(), case.lengths[0])
+        },
+        rust: |case, [out, _]| {
+            let ratio = snr_db(case.numbers[0] as u32);
+            out.put(8, 0, ratio.unwrap_or(0.0).to_bits());
+            if ratio.is_some() { 0 } else { NO_CLASS }
+        },
     },
 ];
 
@@ -222,5 +242,14 @@ pub fn draw_steps(random: &mut Random) -> u64 {
         0..=4 => random.pick(&steps::CLASSES),
         5 | 6 => random.pick(&NEAR),
         _ => random.word(),
+    }
+}
+
+/// The same, and 0, which Table C.5 lists.
+fn draw_listed(random: &mut Random) -> u64 {
+    if random.one_in(12) {
+        0
+    } else {
+        draw_steps(random)
     }
 }

@@ -1,0 +1,738 @@
+/*
+ * Calls every function of folgrist_mp2.h and checks what it returns and writes: with arguments that are good, refused and out of range, and with
+ * arrays that are as long as asked, longer and shorter. What lies behind the elements that a function writes has to stay as it was, and beside
+ * FOLGRIST_SHORT_SLICE, FOLGRIST_BAD_ARGUMENT and FOLGRIST_NOTHING_THERE all of it.
+ *
+ * The answers that are expected were found by hand or are those of the Rust program that the library is a port of.
+ *
+ * C99 and C++11. Run by examples/check.sh.
+ */
+#include <math.h>
+#include <stdio.h>
+#include <string.h>
+
+#include "folgrist_mp2.h"
+
+#define COUNT(a) (sizeof(a) / sizeof(a)[0])
+
+/* What a function may be handed beside arrays; it takes some of these. */
+struct arguments {
+    uint8_t lsf;
+    uint32_t bit_rate;
+    uint32_t sample_rate;
+    uint8_t padding;
+    uint8_t protection_bit;
+    uint8_t mode;
+    uint8_t mode_extension;
+    uint32_t banc;
+    uint8_t table;
+    uint64_t sb;
+    uint32_t number; /* steps, or a place of a row */
+    double samples[3];
+    uint8_t indices[3];
+    uint64_t limit;
+};
+
+/* The seven arguments of a header, in their order. */
+#define HEADER(a) (a)->lsf, (a)->bit_rate, (a)->sample_rate, (a)->padding, (a)->protection_bit, (a)->mode, (a)->mode_extension
+
+/* A function's arrays: one that is read, one that is written before `out`, and `out`. */
+enum array { READ, FIRST, OUT, ARRAYS };
+
+static double input[1160];
+
+static union memory {
+    uint8_t bytes[512];
+    uint32_t words[128];
+    uint64_t longs[64];
+    int64_t integers[64];
+    double doubles[64];
+} first, out;
+
+/* Elements behind those that a function asks for. */
+#define SPARE 3
+
+/* What the memory holds before a call. */
+#define FILL 0xA5
+
+struct function {
+    const char *name;
+    size_t needed[ARRAYS];
+    size_t element[ARRAYS]; /* bytes */
+    uint32_t (*call)(const struct arguments *a, const size_t *length);
+};
+
+/* ---- counting ---- */
+
+static unsigned checks, failures, functions;
+static unsigned checks_before, failures_before;
+
+static void check(const char *name, const char *what, int good)
+{
+    checks++;
+    if (!good) {
+        failures++;
+        printf("%s: %s is not as expected\n", name, what);
+    }
+}
+
+/* The line of a function, behind its checks. */
+static void done(const char *name)
+{
+    printf("%-28s %3u checks%s\n", name, checks - checks_before, failures == failures_before ? "" : ", FAILED");
+    checks_before = checks;
+    failures_before = failures;
+    functions++;
+}
+
+/* ---- one call ---- */
+
+/* 1 where the memory starts with the bytes expected, none of them where `expected` is null, and is as it was behind them. */
+static int holds(const union memory *m, const void *expected, size_t count)
+{
+    size_t i;
+
+    if (expected == NULL)
+        count = 0;
+    else if (memcmp(m->bytes, expected, count) != 0)
+        return 0;
+    for (i = count; i < sizeof m->bytes; i++)
+        if (m->bytes[i] != FILL)
+            return 0;
+    return 1;
+}
+
+/* Null for `in_first` or `in_out`: nothing is written there. */
+static void expect_at(const struct function *f, const struct arguments *a, const size_t *length, uint32_t number, const void *in_first,
+                      const void *in_out)
+{
+    uint32_t answered;
+
+    memset(&first, FILL, sizeof first);
+    memset(&out, FILL, sizeof out);
+    answered = f->call(a, length);
+    check(f->name, "the number", answered == number);
+    check(f->name, "the first array", holds(&first, in_first, f->needed[FIRST] * f->element[FIRST]));
+    check(f->name, "out", holds(&out, in_out, f->needed[OUT] * f->element[OUT]));
+}
+
+/* ---- one question: with arrays as long as asked, longer, and each of them shorter ---- */
+
+static void expect(const struct function *f, const struct arguments *a, uint32_t number, const void *in_first, const void *in_out)
+{
+    size_t length[ARRAYS];
+    int i;
+
+    for (i = 0; i < ARRAYS; i++)
+        length[i] = f->needed[i];
+    expect_at(f, a, length, number, in_first, in_out);
+    for (i = 0; i < ARRAYS; i++)
+        length[i] = f->needed[i] + SPARE;
+    expect_at(f, a, length, number, in_first, in_out);
+    for (i = 0; i < ARRAYS; i++) {
+        if (f->needed[i] == 0)
+            continue;
+        length[i] = f->needed[i] - 1;
+        expect_at(f, a, length, FOLGRIST_SHORT_SLICE, NULL, NULL);
+        length[i] = 0;
+        expect_at(f, a, length, FOLGRIST_SHORT_SLICE, NULL, NULL);
+        length[i] = f->needed[i] + SPARE;
+    }
+}
+
+/* ---- headers ---- */
+
+/* 44100 Hz, stereo, 192000 bit/s, neither CRC nor padding. */
+static struct arguments stereo(void)
+{
+    struct arguments a;
+
+    memset(&a, 0, sizeof a);
+    a.bit_rate = 192000;
+    a.sample_rate = 44100;
+    a.protection_bit = 1;
+    a.mode = FOLGRIST_STEREO;
+    a.mode_extension = FOLGRIST_BOUND_4;
+    return a;
+}
+
+/* The same in joint stereo with bound 12, with CRC and padding. */
+static struct arguments joint(void)
+{
+    struct arguments a = stereo();
+
+    a.padding = 1;
+    a.protection_bit = 0;
+    a.mode = FOLGRIST_JOINT_STEREO;
+    a.mode_extension = FOLGRIST_BOUND_12;
+    return a;
+}
+
+/* 48000 Hz, single channel, 32000 bit/s, with CRC. */
+static struct arguments mono(void)
+{
+    struct arguments a = stereo();
+
+    a.bit_rate = 32000;
+    a.sample_rate = 48000;
+    a.protection_bit = 0;
+    a.mode = FOLGRIST_SINGLE_CHANNEL;
+    return a;
+}
+
+/* 44100 Hz, stereo, 193000 bit/s: no table. */
+static struct arguments odd(void)
+{
+    struct arguments a = stereo();
+
+    a.bit_rate = 193000;
+    return a;
+}
+
+/* LSF, 0 Hz. */
+static struct arguments no_rate(void)
+{
+    struct arguments a = mono();
+
+    a.lsf = 1;
+    a.sample_rate = 0;
+    return a;
+}
+
+/* LSF, 1 Hz: 144 * (2^32 - 1) bytes. */
+static struct arguments large(void)
+{
+    struct arguments a = mono();
+
+    a.lsf = 1;
+    a.bit_rate = 0xFFFFFFFF;
+    a.sample_rate = 1;
+    return a;
+}
+
+/* Each argument that has a range, outside it. */
+static void expect_bad_headers(const struct function *f)
+{
+    struct arguments bad[6];
+    size_t i;
+
+    for (i = 0; i < COUNT(bad); i++)
+        bad[i] = stereo();
+    bad[0].lsf = 2;
+    bad[1].padding = 2;
+    bad[2].protection_bit = 2;
+    bad[3].mode = 4;
+    bad[4].mode_extension = 4;
+    bad[5].lsf = 255;
+    for (i = 0; i < COUNT(bad); i++)
+        expect(f, &bad[i], FOLGRIST_BAD_ARGUMENT, NULL, NULL);
+}
+
+/* The headers that questions 1 to 3 refuse, beside zeros. */
+static void expect_refused_headers(const struct function *f)
+{
+    static const uint32_t zeros[64] = {0};
+    const struct arguments a = odd(), b = no_rate(), c = large();
+
+    expect(f, &a, FOLGRIST_NO_TABLE, zeros, zeros);
+    expect(f, &b, FOLGRIST_ZERO_SAMPLE_RATE, zeros, zeros);
+    expect(f, &c, FOLGRIST_FRAME_TOO_LARGE, zeros, zeros);
+}
+
+static void read_only_zeros(void)
+{
+    memset(input, 0, sizeof input);
+}
+
+/* From 30 dB down by three quarters of one from slot to slot. */
+static void read_falling_ratios(void)
+{
+    int slot;
+
+    read_only_zeros();
+    for (slot = 0; slot < 64; slot++)
+        input[slot] = 30.0 - 0.75 * slot;
+}
+
+/* ---- the frame ---- */
+
+static void check_version(void)
+{
+    const uint32_t header = 10000 * FOLGRIST_VERSION_MAJOR + 100 * FOLGRIST_VERSION_MINOR + FOLGRIST_VERSION_PATCH;
+
+    check("version", "the archive's", folgrist_version() == header);
+    done("version");
+}
+
+static uint32_t call_select_table(const struct arguments *a, const size_t *length)
+{
+    return folgrist_select_table(HEADER(a), out.words, length[OUT]);
+}
+
+static void check_select_table(void)
+{
+    static const struct function f = {"select_table", {0, 0, 1}, {0, 0, sizeof(uint32_t)}, call_select_table};
+    static const uint32_t b2a = FOLGRIST_TABLE_B2A, b2b = FOLGRIST_TABLE_B2B, b2c = FOLGRIST_TABLE_B2C, b2d = FOLGRIST_TABLE_B2D;
+    static const uint32_t lsf = FOLGRIST_TABLE_B1_LSF, none = 0;
+    struct arguments a = stereo();
+
+    expect(&f, &a, FOLGRIST_ACCEPTED, NULL, &b2b);
+    a = mono();
+    expect(&f, &a, FOLGRIST_ACCEPTED, NULL, &b2c);
+    a.bit_rate = 64999;
+    expect(&f, &a, FOLGRIST_ACCEPTED, NULL, &b2a);
+    a.bit_rate = 32000;
+    a.sample_rate = 32000;
+    expect(&f, &a, FOLGRIST_ACCEPTED, NULL, &b2d);
+    a = no_rate();
+    expect(&f, &a, FOLGRIST_ACCEPTED, NULL, &lsf);
+    a = odd();
+    expect(&f, &a, FOLGRIST_NO_TABLE, NULL, &none);
+    expect_bad_headers(&f);
+    done(f.name);
+}
+
+static uint32_t call_frame_size_bytes(const struct arguments *a, const size_t *length)
+{
+    return folgrist_frame_size_bytes(HEADER(a), out.longs, length[OUT]);
+}
+
+static void check_frame_size_bytes(void)
+{
+    static const struct function f = {"frame_size_bytes", {0, 0, 1}, {0, 0, sizeof(uint64_t)}, call_frame_size_bytes};
+    static const uint64_t bytes[] = {626, 627, 194, 618475290480, 0};
+    struct arguments a = stereo();
+
+    expect(&f, &a, FOLGRIST_ACCEPTED, NULL, &bytes[0]);
+    a = joint();
+    expect(&f, &a, FOLGRIST_ACCEPTED, NULL, &bytes[1]);
+    a = mono();
+    a.bit_rate = 64999;
+    expect(&f, &a, FOLGRIST_ACCEPTED, NULL, &bytes[2]);
+    a = large();
+    expect(&f, &a, FOLGRIST_ACCEPTED, NULL, &bytes[3]);
+    a = no_rate();
+    expect(&f, &a, FOLGRIST_ZERO_SAMPLE_RATE, NULL, &bytes[4]);
+    expect_bad_headers(&f);
+    done(f.name);
+}
+
+static uint32_t call_fixed_bit_budget(const struct arguments *a, const size_t *length)
+{
+    return folgrist_fixed_bit_budget(HEADER(a), out.words, length[OUT]);
+}
+
+static void check_fixed_bit_budget(void)
+{
+    static const struct function f = {"fixed_bit_budget", {0, 0, 8}, {0, 0, sizeof(uint32_t)}, call_fixed_bit_budget};
+    static const uint32_t in_stereo[] = {5008, 32, 0, 188, 30, 30, 2, FOLGRIST_TABLE_B2B};
+    static const uint32_t in_joint[] = {5016, 32, 16, 141, 30, 12, 2, FOLGRIST_TABLE_B2B};
+    static const uint32_t in_mono[] = {768, 32, 16, 26, 8, 8, 1, FOLGRIST_TABLE_B2C};
+    struct arguments a = stereo();
+
+    expect(&f, &a, FOLGRIST_ACCEPTED, NULL, in_stereo);
+    a = joint();
+    expect(&f, &a, FOLGRIST_ACCEPTED, NULL, in_joint);
+    a = mono();
+    expect(&f, &a, FOLGRIST_ACCEPTED, NULL, in_mono);
+    expect_refused_headers(&f);
+    expect_bad_headers(&f);
+    done(f.name);
+}
+
+static uint32_t call_available_data_bits(const struct arguments *a, const size_t *length)
+{
+    return folgrist_available_data_bits(HEADER(a), a->banc, out.integers, length[OUT]);
+}
+
+static void check_available_data_bits(void)
+{
+    static const struct function f = {"available_data_bits", {0, 0, 1}, {0, 0, sizeof(int64_t)}, call_available_data_bits};
+    static const int64_t bits[] = {4788, -212, 3827};
+    struct arguments a = stereo();
+
+    expect(&f, &a, FOLGRIST_ACCEPTED, NULL, &bits[0]);
+    a.banc = 5000;
+    expect(&f, &a, FOLGRIST_ACCEPTED, NULL, &bits[1]);
+    a = joint();
+    a.banc = 1000;
+    expect(&f, &a, FOLGRIST_ACCEPTED, NULL, &bits[2]);
+    expect_refused_headers(&f);
+    expect_bad_headers(&f);
+    done(f.name);
+}
+
+static uint32_t call_demand_bits(const struct arguments *a, const size_t *length)
+{
+    return folgrist_demand_bits(HEADER(a), input, length[READ], out.longs, length[OUT]);
+}
+
+static void check_demand_bits(void)
+{
+    static const struct function f = {"demand_bits", {64, 0, 1}, {sizeof(double), 0, sizeof(uint64_t)}, call_demand_bits};
+    static const double ratios[] = {0.0, 7.0, 7.5, (double)NAN};
+    static const uint64_t bits[] = {0, 80, 104, 560}, falling = 6940;
+    struct arguments a = mono();
+    size_t i;
+
+    read_only_zeros();
+    for (i = 0; i < COUNT(ratios); i++) {
+        input[0] = ratios[i];
+        expect(&f, &a, FOLGRIST_ACCEPTED, NULL, &bits[i]);
+    }
+    a = joint();
+    read_falling_ratios();
+    expect(&f, &a, FOLGRIST_ACCEPTED, NULL, &falling);
+    expect_refused_headers(&f);
+    expect_bad_headers(&f);
+    done(f.name);
+}
+
+static uint32_t call_allocate_bits(const struct arguments *a, const size_t *length)
+{
+    return folgrist_allocate_bits(HEADER(a), a->banc, input, length[READ], first.words, length[FIRST], out.words, length[OUT]);
+}
+
+static void check_allocate_bits(void)
+{
+    static const struct function f = {
+        "allocate_bits", {64, 64, 4}, {sizeof(double), sizeof(uint32_t), sizeof(uint32_t)}, call_allocate_bits};
+    static const uint32_t none[64] = {0}, one[64] = {3};
+    static const uint32_t full[] = {0, 0, 0, 0}, insufficient[] = {0, 768, 74, 695}, left_79[] = {79, 0, 0, 0}, left_11[] = {11, 0, 0, 0};
+    static const uint32_t falling[64] = {15, 15, 15, 9, 9, 9, 9, 9, 9, 9, 7, 7, 7, 7, 7, 5, 5, 5, 5, 5, 5, 3, 3, 3, 3, 3, 3, 3, 3, 3, 0, 0,
+                                         0,  0,  0,  0, 0, 0, 0, 0, 0, 0, 0, 0, 7, 7, 7, 5, 5, 5, 5, 5, 5, 3, 3, 3, 3, 3, 3, 3, 3, 3, 0, 0};
+    struct arguments a = mono();
+
+    read_only_zeros();
+    a.banc = 694;
+    expect(&f, &a, FOLGRIST_ACCEPTED, none, full);
+    a.banc = 695;
+    expect(&f, &a, FOLGRIST_INSUFFICIENT_FRAME, none, insufficient);
+    a.protection_bit = 1;
+    a.banc = 630;
+    expect(&f, &a, FOLGRIST_ACCEPTED, one, full);
+    a.banc = 631;
+    expect(&f, &a, FOLGRIST_ACCEPTED, none, left_79);
+    a = joint();
+    a.banc = 1000;
+    read_falling_ratios();
+    expect(&f, &a, FOLGRIST_ACCEPTED, falling, left_11);
+    expect_refused_headers(&f);
+    expect_bad_headers(&f);
+    done(f.name);
+}
+
+/* ---- the allocation tables ---- */
+
+/* The arguments of a table, a subband, and steps or a place. */
+static struct arguments place(uint8_t table, uint64_t sb, uint32_t number)
+{
+    struct arguments a = stereo();
+
+    a.table = table;
+    a.sb = sb;
+    a.number = number;
+    return a;
+}
+
+/* Tables above the last. */
+static void expect_bad_tables(const struct function *f)
+{
+    const struct arguments a = place(FOLGRIST_TABLE_B1_LSF + 1, 0, 0), b = place(255, 0, 0);
+
+    expect(f, &a, FOLGRIST_BAD_ARGUMENT, NULL, NULL);
+    expect(f, &b, FOLGRIST_BAD_ARGUMENT, NULL, NULL);
+}
+
+static uint32_t call_table_limits(const struct arguments *a, const size_t *length)
+{
+    return folgrist_table_limits(a->table, a->sb, out.words, length[OUT]);
+}
+
+static void check_table_limits(void)
+{
+    static const struct function f = {"table_limits", {0, 0, 2}, {0, 0, sizeof(uint32_t)}, call_table_limits};
+    static const uint32_t limits[][2] = {{27, 4}, {27, 0}, {30, 4}, {30, 2}, {8, 0}};
+    const struct arguments asked[] = {place(FOLGRIST_TABLE_B2A, 0, 0), place(FOLGRIST_TABLE_B2A, 27, 0), place(FOLGRIST_TABLE_B2B, 3, 0),
+                                      place(FOLGRIST_TABLE_B1_LSF, 29, 0), place(FOLGRIST_TABLE_B2C, UINT64_MAX, 0)};
+    size_t i;
+
+    for (i = 0; i < COUNT(asked); i++)
+        expect(&f, &asked[i], FOLGRIST_ACCEPTED, NULL, limits[i]);
+    expect_bad_tables(&f);
+    done(f.name);
+}
+
+static uint32_t call_nb_steps(const struct arguments *a, const size_t *length)
+{
+    return folgrist_nb_steps(a->table, a->sb, a->number, out.words, length[OUT]);
+}
+
+static void check_nb_steps(void)
+{
+    static const struct function f = {"nb_steps", {0, 0, 1}, {0, 0, sizeof(uint32_t)}, call_nb_steps};
+    static const uint32_t steps[] = {15, 32767, 0};
+    const struct arguments there[] = {place(FOLGRIST_TABLE_B2B, 2, 3), place(FOLGRIST_TABLE_B2C, 0, 15), place(FOLGRIST_TABLE_B2A, 0, 0)};
+    const struct arguments nowhere[] = {place(FOLGRIST_TABLE_B2C, 0, 16), place(FOLGRIST_TABLE_B2C, 8, 0),
+                                        place(FOLGRIST_TABLE_B2C, UINT64_MAX, UINT32_MAX)};
+    size_t i;
+
+    for (i = 0; i < COUNT(there); i++)
+        expect(&f, &there[i], FOLGRIST_ACCEPTED, NULL, &steps[i]);
+    for (i = 0; i < COUNT(nowhere); i++)
+        expect(&f, &nowhere[i], FOLGRIST_NOTHING_THERE, NULL, NULL);
+    expect_bad_tables(&f);
+    done(f.name);
+}
+
+static uint32_t call_allocation_index(const struct arguments *a, const size_t *length)
+{
+    return folgrist_allocation_index(a->table, a->sb, a->number, out.words, length[OUT]);
+}
+
+static void check_allocation_index(void)
+{
+    static const struct function f = {"allocation_index", {0, 0, 1}, {0, 0, sizeof(uint32_t)}, call_allocation_index};
+    static const uint32_t indices[] = {3, 15, 0};
+    const struct arguments there[] = {place(FOLGRIST_TABLE_B2B, 2, 15), place(FOLGRIST_TABLE_B2C, 0, 32767), place(FOLGRIST_TABLE_B2A, 0, 0)};
+    const struct arguments nowhere[] = {place(FOLGRIST_TABLE_B2C, 0, 4), place(FOLGRIST_TABLE_B2A, 27, 0)};
+    size_t i;
+
+    for (i = 0; i < COUNT(there); i++)
+        expect(&f, &there[i], FOLGRIST_ACCEPTED, NULL, &indices[i]);
+    for (i = 0; i < COUNT(nowhere); i++)
+        expect(&f, &nowhere[i], FOLGRIST_NOTHING_THERE, NULL, NULL);
+    expect_bad_tables(&f);
+    done(f.name);
+}
+
+/* ---- a number of steps ---- */
+
+static struct arguments of_steps(uint32_t steps)
+{
+    return place(0, 0, steps);
+}
+
+static uint32_t call_class_of_quantization(const struct arguments *a, const size_t *length)
+{
+    return folgrist_class_of_quantization(a->number, first.doubles, length[FIRST], out.words, length[OUT]);
+}
+
+static void check_class_of_quantization(void)
+{
+    static const struct function f = {
+        "class_of_quantization", {0, 2, 4}, {0, sizeof(double), sizeof(uint32_t)}, call_class_of_quantization};
+    static const double cd[][2] = {{1.6, 0.5}, {1.14285714286, 0.25}, {0.0, 0.0}};
+    static const uint32_t figures[][4] = {{1, 3, 7, 3}, {0, 1, 3, 3}, {0, 0, 0, 0}};
+    const struct arguments grouped = of_steps(5), single = of_steps(7), none = of_steps(6), zero = of_steps(0);
+
+    expect(&f, &grouped, FOLGRIST_ACCEPTED, cd[0], figures[0]);
+    expect(&f, &single, FOLGRIST_ACCEPTED, cd[1], figures[1]);
+    expect(&f, &none, FOLGRIST_NO_CLASS, cd[2], figures[2]);
+    expect(&f, &zero, FOLGRIST_NO_CLASS, cd[2], figures[2]);
+    done(f.name);
+}
+
+static void check_sample_bits_for(void)
+{
+    static const uint32_t bits[][2] = {{3, 60}, {5, 84}, {7, 108}, {9, 120}, {65535, 576}, {0, 0}, {4, 0}, {UINT32_MAX, 0}};
+    size_t i;
+
+    for (i = 0; i < COUNT(bits); i++)
+        check("sample_bits_for", "the value", folgrist_sample_bits_for(bits[i][0]) == bits[i][1]);
+    done("sample_bits_for");
+}
+
+static uint32_t call_snr_db(const struct arguments *a, const size_t *length)
+{
+    return folgrist_snr_db(a->number, out.doubles, length[OUT]);
+}
+
+static void check_snr_db(void)
+{
+    static const struct function f = {"snr_db", {0, 0, 1}, {0, 0, sizeof(double)}, call_snr_db};
+    static const double db[] = {0.0, 7.0, 20.84, 98.01}, none = 0.0;
+    const struct arguments listed[] = {of_steps(0), of_steps(3), of_steps(9), of_steps(65535)};
+    const struct arguments others[] = {of_steps(1), of_steps(65536)};
+    size_t i;
+
+    for (i = 0; i < COUNT(listed); i++)
+        expect(&f, &listed[i], FOLGRIST_ACCEPTED, NULL, &db[i]);
+    for (i = 0; i < COUNT(others); i++)
+        expect(&f, &others[i], FOLGRIST_NO_CLASS, NULL, &none);
+    done(f.name);
+}
+
+/* ---- scalefactors ---- */
+
+static void check_pick_scalefactor_index(void)
+{
+    const char *name = "pick_scalefactor_index";
+
+    check(name, "the index of 0.0", folgrist_pick_scalefactor_index(0.0) == 62);
+    check(name, "the index of 0.7", folgrist_pick_scalefactor_index(0.7) == 4);
+    check(name, "the index of 1.0", folgrist_pick_scalefactor_index(1.0) == 3);
+    check(name, "the index of 2.0", folgrist_pick_scalefactor_index(2.0) == 0);
+    check(name, "the index of 3.0", folgrist_pick_scalefactor_index(3.0) == 0);
+    check(name, "the index of a NaN", folgrist_pick_scalefactor_index((double)NAN) == 0);
+    done(name);
+}
+
+static uint32_t call_extract_scalefactor_index(const struct arguments *a, const size_t *length)
+{
+    (void)a;
+    return folgrist_extract_scalefactor_index(input, length[READ], out.bytes, length[OUT]);
+}
+
+static void check_extract_scalefactor_index(void)
+{
+    static const struct function f = {"extract_scalefactor_index", {12, 0, 1}, {sizeof(double), 0, 1}, call_extract_scalefactor_index};
+    static const uint8_t of_one = 3, of_zeros = 62, of_three = 0;
+    const struct arguments a = stereo();
+    int i;
+
+    read_only_zeros();
+    input[12] = 2.0;
+    expect(&f, &a, FOLGRIST_ACCEPTED, NULL, &of_zeros);
+    input[11] = -1.0;
+    expect(&f, &a, FOLGRIST_ACCEPTED, NULL, &of_one);
+    input[0] = 3.0;
+    expect(&f, &a, FOLGRIST_ACCEPTED, NULL, &of_three);
+    for (i = 0; i < 12; i++)
+        input[i] = (double)NAN;
+    expect(&f, &a, FOLGRIST_ACCEPTED, NULL, &of_zeros);
+    done(f.name);
+}
+
+static uint32_t call_compute_scalefactors(const struct arguments *a, const size_t *length)
+{
+    return folgrist_compute_scalefactors(input, length[READ], a->limit, out.bytes, length[OUT]);
+}
+
+static void check_compute_scalefactors(void)
+{
+    static const struct function f = {"compute_scalefactors", {1152, 0, 96}, {sizeof(double), 0, 1}, call_compute_scalefactors};
+    static const uint8_t of_subbands[3][2] = {{3, 0}, {3, 62}, {3, 0}};
+    static const uint64_t limits[] = {0, 1, 2, 32, UINT64_MAX};
+    struct arguments a = stereo();
+    uint8_t expected[96];
+    size_t i, granule, sb;
+
+    /* subband 0 has 1.0 throughout; subband 1 has 2.0, 0.0 and 3.0 by granule */
+    read_only_zeros();
+    for (i = 0; i < 36; i++) {
+        input[i] = 1.0;
+        input[36 + i] = i < 12 ? 2.0 : i < 24 ? 0.0 : 3.0;
+    }
+    for (i = 0; i < COUNT(limits); i++) {
+        memset(expected, 62, sizeof expected);
+        for (granule = 0; granule < 3; granule++)
+            for (sb = 0; sb < 2 && sb < limits[i]; sb++)
+                expected[32 * granule + sb] = of_subbands[granule][sb];
+        a.limit = limits[i];
+        expect(&f, &a, FOLGRIST_ACCEPTED, NULL, expected);
+    }
+    done(f.name);
+}
+
+static uint32_t call_select_scfsi(const struct arguments *a, const size_t *length)
+{
+    return folgrist_select_scfsi(a->indices[0], a->indices[1], a->indices[2], out.bytes, length[OUT]);
+}
+
+static void check_select_scfsi(void)
+{
+    static const struct function f = {"select_scfsi", {0, 0, 9}, {0, 0, 1}, call_select_scfsi};
+    static const uint8_t given[][3] = {{10, 12, 11}, {0, 3, 3}, {0, 2, 4}, {20, 10, 15}};
+    static const uint8_t selected[][9] = {{10, 10, 10, 0, 0, 1, FOLGRIST_SHARE_ALL, 2, 4},
+                                          {0, 3, 3, 1, 1, 0, FOLGRIST_SHARE_0_THEN_12, 1, 3},
+                                          {0, 0, 0, 0, 0, 1, FOLGRIST_SHARE_ALL, 2, 2},
+                                          {20, 10, 15, 1, 1, 1, FOLGRIST_THREE_PER_GRANULE, 5, 1}};
+    struct arguments a = stereo();
+    size_t i;
+
+    for (i = 0; i < COUNT(given); i++) {
+        memcpy(a.indices, given[i], sizeof a.indices);
+        expect(&f, &a, FOLGRIST_ACCEPTED, NULL, selected[i]);
+    }
+    done(f.name);
+}
+
+/* ---- samples ---- */
+
+static struct arguments of_samples(uint32_t steps, double x, double y, double z)
+{
+    struct arguments a = of_steps(steps);
+
+    a.samples[0] = x;
+    a.samples[1] = y;
+    a.samples[2] = z;
+    return a;
+}
+
+static uint32_t call_quantize_sample(const struct arguments *a, const size_t *length)
+{
+    return folgrist_quantize_sample(a->number, a->samples[0], out.words, length[OUT]);
+}
+
+static void check_quantize_sample(void)
+{
+    static const struct function f = {"quantize_sample", {0, 0, 1}, {0, 0, sizeof(uint32_t)}, call_quantize_sample};
+    static const uint32_t steps[] = {3, 3, 3, 7, 7, 7, 7, 15};
+    static const double samples[] = {-1.0, 0.0, 1.0, 1.0, 2.0, (double)INFINITY, (double)NAN, 1.0};
+    static const uint32_t codes[] = {0, 1, 2, 6, 7, 7, 4, 15}, none = 0;
+    struct arguments a;
+    size_t i;
+
+    for (i = 0; i < COUNT(steps); i++) {
+        a = of_samples(steps[i], samples[i], 0.0, 0.0);
+        expect(&f, &a, FOLGRIST_ACCEPTED, NULL, &codes[i]);
+    }
+    a = of_samples(6, 1.0, 0.0, 0.0);
+    expect(&f, &a, FOLGRIST_NO_CLASS, NULL, &none);
+    done(f.name);
+}
+
+static uint32_t call_write_triplet(const struct arguments *a, const size_t *length)
+{
+    return folgrist_write_triplet(a->number, a->samples[0], a->samples[1], a->samples[2], out.words, length[OUT]);
+}
+
+static void check_write_triplet(void)
+{
+    static const struct function f = {"write_triplet", {0, 0, 5}, {0, 0, sizeof(uint32_t)}, call_write_triplet};
+    static const uint32_t grouped[] = {1, 5, 26, 0, 0}, separate[] = {3, 3, 6, 3, 1}, none[] = {0, 0, 0, 0, 0};
+    struct arguments a = of_samples(3, 1.0, 1.0, 1.0);
+
+    expect(&f, &a, FOLGRIST_ACCEPTED, NULL, grouped);
+    a = of_samples(7, 0.9, 0.1, -0.6);
+    expect(&f, &a, FOLGRIST_ACCEPTED, NULL, separate);
+    a = of_samples(0, 0.9, 0.1, -0.6);
+    expect(&f, &a, FOLGRIST_NO_CLASS, NULL, none);
+    done(f.name);
+}
+
+int main(void)
+{
+    check_version();
+    check_select_table();
+    check_frame_size_bytes();
+    check_fixed_bit_budget();
+    check_available_data_bits();
+    check_demand_bits();
+    check_allocate_bits();
+    check_table_limits();
+    check_nb_steps();
+    check_allocation_index();
+    check_class_of_quantization();
+    check_sample_bits_for();
+    check_snr_db();
+    check_pick_scalefactor_index();
+    check_extract_scalefactor_index();
+    check_compute_scalefactors();
+    check_select_scfsi();
+    check_quantize_sample();
+    check_write_triplet();
+    printf("%u functions, %u checks, %u failed\n", functions, checks, failures);
+    return failures == 0 ? 0 : 1;
+}
