@@ -1,4 +1,6 @@
 // The verdict on a line: the library's answers beside the numbers that the line expects.
+ghost use mathlib.Core.Path.{_≡_};
+ghost use Rattle.replay.specs.Verdicts.{verdictOf, pairVerdict, foundVerdict, sameFrom};
 use bitalloc::BitAllocTable;
 use bitalloc::OptionU32;
 
@@ -11,14 +13,17 @@ pub enum Verdict {
 
 // The verdict on a line: whether it has its kind's count of numbers, with arguments that the library's types can hold, and
 // whether what the library answers is what it expects.
-pub fn verdict_of(read: bool, agrees: bool) -> Verdict {
-    if !read {
-        return Verdict::Unread;
-    }
-    if agrees {
-        Verdict::Agree
+pub fn verdict_of(read: bool, agrees: bool) -> Verdict
+    ensures { λ r. ⌜ r ≡ verdictOf read agrees ⌝ }
+{
+    if read {
+        if agrees {
+            Verdict::Agree
+        } else {
+            Verdict::Differ
+        }
     } else {
-        Verdict::Differ
+        Verdict::Unread
     }
 }
 
@@ -29,10 +34,12 @@ pub fn pair_verdict(
     value: u64,
     expected_number: u64,
     expected_value: u64,
-) -> Verdict {
+) -> Verdict
+    ensures { λ r. ⌜ r ≡ pairVerdict counted number value «expected_number» «expected_value» ⌝ }
+{
     verdict_of(
         counted,
-        number == expected_number && value == expected_value,
+        (number == expected_number) & (value == expected_value),
     )
 }
 
@@ -42,7 +49,9 @@ pub fn found_verdict(
     answer: OptionU32,
     expected_found: u64,
     expected_value: u64,
-) -> Verdict {
+) -> Verdict
+    ensures { λ r. ⌜ r ≡ foundVerdict counted answer «expected_found» «expected_value» ⌝ }
+{
     match answer {
         OptionU32::Some(value) => pair_verdict(
             counted,
@@ -79,7 +88,9 @@ pub fn table_number(table: BitAllocTable) -> u64 {
 }
 
 // Whether the numbers of a line from `at` on are these.
-pub fn same_numbers(numbers: &[u64; 256], at: usize, answers: &[u64]) -> bool {
+pub fn same_numbers(numbers: &[u64; 256], at: usize, answers: &[u64]) -> bool
+    ensures { λ r. ⌜ r ≡ sameFrom (now (numbers .entry)) at (now (answers .entry)) ⌝ }
+{
     let mut place = at;
     let mut i: usize = 0;
     while i < answers.len() {
