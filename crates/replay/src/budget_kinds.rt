@@ -1,10 +1,6 @@
 // Kinds of a frame's bits: those that are fixed, offered and demanded, and their allocation.
-use crate::answers::Verdict;
 use crate::answers::bits_of;
-use crate::answers::pair_verdict;
-use crate::answers::same_numbers;
 use crate::answers::table_number;
-use crate::answers::verdict_of;
 use crate::arguments::OptionHeader;
 use crate::arguments::header_of;
 use crate::arguments::i64_of;
@@ -17,6 +13,10 @@ use encoder_bit_allocator::Allocation;
 use encoder_bit_budget::Budget;
 use encoder_bit_budget::FixedBitBudget;
 use encoder_bit_budget::OptionF64;
+use replay_answers::Verdict;
+use replay_answers::pair_verdict;
+use replay_answers::same_numbers;
+use replay_answers::verdict_of;
 ghost use Prim.Native.Nat.{_≤_};
 
 // Steps -> found ratio.

@@ -2,11 +2,11 @@
 // back with the answers that the line has behind them. A new kind is its function, an arm of `replay`, and its name as
 // an arm of one of the functions that `print_name` calls. Tests are joined by `&` where the check of a branch would take
 // longer.
-use crate::answers::Verdict;
 use crate::budget_kinds;
 use crate::sample_kinds;
 use crate::scalefactor_kinds;
 use crate::table_kinds;
+use replay_answers::Verdict;
 
 // Replays a line of `count` numbers, the first of which is the kind. The functions that it calls take the same two, and
 // their comments say what stands behind the kind: the arguments, an arrow, the expected answers. H is a header, as

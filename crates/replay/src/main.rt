@@ -10,9 +10,9 @@ mod sample_kinds;
 mod scalefactor_kinds;
 mod table_kinds;
 
-use answers::Verdict;
 use lines::Ended;
 use lines::Line;
+use replay_answers::Verdict;
 ghost use Prim.Native.Nat.{_<_};
 
 // What a turn of reading leaves: the line that it stopped in, and whether there may be more.

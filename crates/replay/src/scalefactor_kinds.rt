@@ -1,14 +1,14 @@
 // Kinds of scalefactor indices and of their selection.
-use crate::answers::Verdict;
 use crate::answers::flag;
-use crate::answers::same_numbers;
-use crate::answers::verdict_of;
 use crate::arguments::OptionScfsi;
 use crate::arguments::double;
 use crate::arguments::i16_of;
 use crate::arguments::read_doubles;
 use crate::arguments::scfsi_of;
 use encoder_scfsi::TransmissionPattern;
+use replay_answers::Verdict;
+use replay_answers::same_numbers;
+use replay_answers::verdict_of;
 ghost use Prim.Native.Nat.{_≤_};
 
 // Magnitude -> index.

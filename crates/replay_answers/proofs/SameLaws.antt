@@ -8,7 +8,7 @@ use native.Mathlib.Omega.{arith}
 use lib.ListN.{length, drop, getD}
 use lib.Seq.{drop-cons}
 use borrow.Author.Tests.{lt-ltb, le-ltb, eq-eqb, ne-eqb}
-use Rattle.replay.specs.Verdicts.{sameFrom}
+use Rattle.replay_answers.specs.Verdicts.{sameFrom}
 
 -- a list beyond its end
 drop-past : (l : List ℕ) (i : ℕ) → length l ≤ i → drop i l ≡ []

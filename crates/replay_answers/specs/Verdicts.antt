@@ -6,8 +6,8 @@ use lib.Dec.{eqb, ltb}
 use lib.ListN.{getD}
 use Rattle.bitalloc.specs.declared.OptionU32.{OptionU32}
 use Rattle.bitalloc.specs.declared.OptionU32.the-variants as Found
-use Rattle.replay.specs.declared.answers.Verdict.{Verdict}
-use Rattle.replay.specs.declared.answers.Verdict.the-variants.{Agree, Differ, Unread}
+use Rattle.replay_answers.specs.declared.Verdict.{Verdict}
+use Rattle.replay_answers.specs.declared.Verdict.the-variants.{Agree, Differ, Unread}
 
 -- by whether the line can be read, and whether the answers are those that it expects
 abbrev pub verdictOf : Bool → Bool → Verdict

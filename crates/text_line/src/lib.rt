@@ -3,7 +3,7 @@
 ghost use mathlib.Core.Path.{_≡_};
 ghost use mathlib.Core.Bool.{cond};
 ghost use mathlib.Core.List.{[], _++_};
-ghost use Prim.Native.Nat.{_+_, _-_, _^_, _≤_, min};
+ghost use Prim.Native.Nat.{_+_, _-_, _≤_, min};
 ghost use lib.ListN.{length};
 ghost use lib.Seq.{paste};
 ghost use Rattle.text_line.specs.Line.{text, textOf, cut, spaces, aligned, EndedIs};
@@ -31,13 +31,6 @@ impl Line {
             bytes: [0; 256],
             length: 0,
         }
-    }
-
-    // How many bytes the text has.
-    pub fn size(self) -> usize
-        ensures { λ r. ⌜ (r ≡ length (textOf self)) × (r ≤ 256) ⌝ }
-    {
-        least(self.length, 256)
     }
 
     // The text with a line feed behind it.
@@ -201,7 +194,7 @@ fn above(a: usize, b: usize) -> usize
 
 // 100 times a magnitude, in one rounding, as the nearest whole number, halves up, at most 2^32; 0 for a NaN.
 fn hundredths(magnitude: f64) -> u64
-    ensures { λ r. ⌜ (r ≡ hundredthsOf magnitude) × (r ≤ 2 ^ 32) ⌝ }
+    ensures { λ r. ⌜ r ≡ hundredthsOf magnitude ⌝ }
 {
     encoder_samples::nearest_whole(magnitude * 100.0)
 }

@@ -1,7 +1,7 @@
--- `replay::answers::found_verdict` meets its contract.
+-- `replay_answers::found_verdict` meets its contract.
 use borrow.Author.Needs.{needs}
-use Rattle.replay.proofs.answers.found_verdict.Statement.{statement}
-use Rattle.replay.proofs.answers.found_verdict.Tie as tie
+use Rattle.replay_answers.proofs.found_verdict.Statement.{statement}
+use Rattle.replay_answers.proofs.found_verdict.Tie as tie
 
 enum-known-answer : tie.Need-enum-known-answer
 enum-known-answer c = search needs

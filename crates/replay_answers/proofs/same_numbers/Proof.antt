@@ -1,12 +1,12 @@
--- `replay::answers::same_numbers` meets its contract. The loop's invariant: what is left to compare decides.
+-- `replay_answers::same_numbers` meets its contract. The loop's invariant: what is left to compare decides.
 use mathlib.Core.Path.{_≡_, refl, sym, _∙_}
 use Prim.Native.Nat.{_-_, _≤_}
 use lib.ListN.{length, drop}
 use borrow.Author.Needs.{needs}
-use Rattle.replay.specs.Verdicts.{sameFrom}
-use Rattle.replay.proofs.SameLaws.{past-end, other, one-more, all}
-use Rattle.replay.proofs.answers.same_numbers.Statement.{statement}
-use Rattle.replay.proofs.answers.same_numbers.Tie as tie
+use Rattle.replay_answers.specs.Verdicts.{sameFrom}
+use Rattle.replay_answers.proofs.SameLaws.{past-end, other, one-more, all}
+use Rattle.replay_answers.proofs.same_numbers.Statement.{statement}
+use Rattle.replay_answers.proofs.same_numbers.Tie as tie
 
 abbrev Inv-loop : tie.InvT-loop
 Inv-loop numbers at answers place₀ i₀ place i =

@@ -1,6 +1,6 @@
--- `replay::answers::verdict_of` meets its contract.
-use Rattle.replay.proofs.answers.verdict_of.Statement.{statement}
-use Rattle.replay.proofs.answers.verdict_of.Tie as tie
+-- `replay_answers::verdict_of` meets its contract.
+use Rattle.replay_answers.proofs.verdict_of.Statement.{statement}
+use Rattle.replay_answers.proofs.verdict_of.Tie as tie
 
 returns : tie.Need-returns
 returns c = rw (c .before .if1 .taken, c .if2 .taken)
