@@ -1,13 +1,13 @@
-//! The budget of a frame, and the bits that it offers.
+//! The budget of a frame, the bits of it that are fixed, and those that it offers.
 
 use crate::heads::*;
 use crate::kind::{Asker, Kind, sorted};
 use crate::random::Random;
 use crate::served::{absurd, budget_of, draw, is_asked, layouts, unserved};
-use crate::table_kinds::number_of;
-use reference::encoder_bit_allocator::{available_data_bits, fixed_bit_budget};
+use crate::table_kinds::{number_of, table_of};
+use reference::encoder_bit_allocator::{FixedBitBudget, available_data_bits, fixed_bit_budget};
 
-pub const KINDS: [Kind; 2] = [
+pub const KINDS: [Kind; 3] = [
     Kind {
         number: 26,
         name: "fixed_bit_budget",
@@ -27,6 +27,16 @@ pub const KINDS: [Kind; 2] = [
         halted: Some(&[2, 0]),
         ask: ask_available,
         one_in: 800,
+    },
+    Kind {
+        number: 32,
+        name: "fixed",
+        form: "cb bhdr bcrc bbal sblimit bound channels table -> bits (not asked where the sum of \
+               bhdr, bcrc and bbal wraps)",
+        answer: |a| vec![made_up(a).fixed().into()],
+        halted: None,
+        ask: ask_fixed,
+        one_in: 500,
     },
 ];
 
@@ -221,4 +231,77 @@ fn ask_available(asker: &mut Asker) {
             asker.ask(false, &with_banc(&head, banc));
         }
     }
+}
+
+/// The budget of the eight numbers of kind 32.
+fn made_up(a: &[u64]) -> FixedBitBudget {
+    FixedBitBudget {
+        cb: a[0] as u32,
+        bhdr: a[1] as u32,
+        bcrc: a[2] as u32,
+        bbal: a[3] as u32,
+        sblimit: a[4] as usize,
+        bound: a[5] as usize,
+        channels: a[6] as usize,
+        table: table_of(a[7]),
+    }
+}
+
+/// Three numbers whose sum fits 32 bits, any of them the largest.
+fn three_parts(random: &mut Random) -> [u64; 3] {
+    let top = u64::from(u32::MAX);
+    let a = random.word();
+    let b = random.word().min(top - a);
+    let c = if random.one_in(4) {
+        top - a - b
+    } else {
+        random.word().min(top - a - b)
+    };
+    match random.below(3) {
+        0 => [a, b, c],
+        1 => [b, c, a],
+        _ => [c, a, b],
+    }
+}
+
+/// Budgets of headers, then budgets that no header has.
+fn ask_fixed(asker: &mut Asker) {
+    let words = "header 32, CRC 16 and allocation fields 26: 74 bits";
+    asker.by_hand(words, &[768, 32, 16, 26, 8, 8, 1, 2]);
+    for head in layouts(&mut asker.random) {
+        if budget_of(&head).is_some() {
+            asker.ask(true, &answer_budget(&head)[1..]);
+        }
+    }
+    let top = u32::MAX.into();
+    for parts in [
+        [0; 3],
+        [top, 0, 0],
+        [0, top, 0],
+        [0, 0, top],
+        [top - 2, 1, 1],
+    ] {
+        let budget = with_parts(parts, &mut asker.random);
+        asker.ask(true, &budget);
+    }
+    for _ in 0..RANDOM_HEADERS {
+        let parts = three_parts(&mut asker.random);
+        let budget = with_parts(parts, &mut asker.random);
+        asker.ask(false, &budget);
+    }
+}
+
+/// A made-up budget with these parts and any other numbers.
+fn with_parts([bhdr, bcrc, bbal]: [u64; 3], random: &mut Random) -> [u64; 8] {
+    let [cb, sblimit, bound, channels] = [0; 4].map(|_| random.word());
+    [
+        cb,
+        bhdr,
+        bcrc,
+        bbal,
+        sblimit,
+        bound,
+        channels,
+        random.below(5),
+    ]
 }

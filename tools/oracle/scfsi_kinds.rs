@@ -1,10 +1,10 @@
-//! The selection of scfsi, and the classes of differences.
+//! The selection of scfsi, the classes of differences, and how many indices are transmitted.
 
 use crate::kind::{Asker, Kind, sorted};
 use reference::audio_data::Scfsi;
-use reference::encoder_scfsi::{classify_difference, select_scfsi};
+use reference::encoder_scfsi::{TransmissionPattern, classify_difference, select_scfsi};
 
-pub const KINDS: [Kind; 3] = [
+pub const KINDS: [Kind; 5] = [
     Kind {
         number: 20,
         name: "select_scfsi",
@@ -34,11 +34,47 @@ pub const KINDS: [Kind; 3] = [
         ask: ask_differences,
         one_in: 300,
     },
+    Kind {
+        number: 30,
+        name: "transmitted_count",
+        form: "write0 write1 write2 -> how many of the three are written",
+        answer: |a| vec![pattern_of(a).transmitted_count() as u64],
+        halted: None,
+        ask: |asker| (0..8).for_each(|a| asker.ask(true, &[a / 4, a / 2 % 2, a % 2])),
+        one_in: 1,
+    },
+    Kind {
+        number: 31,
+        name: "parts_on_wire",
+        form: "scfsi, as in kind 20 -> how many indices are transmitted",
+        answer: |a| vec![scfsi_of(a[0]).parts_on_wire() as u64],
+        halted: None,
+        ask: |asker| (0..4).for_each(|code| asker.ask(true, &[code])),
+        one_in: 1,
+    },
 ];
 
 const LAST_INDEX: u64 = 62;
 
 const RANDOM_TRIPLES: usize = 50_000;
+
+fn pattern_of(a: &[u64]) -> TransmissionPattern {
+    TransmissionPattern {
+        write0: a[0] == 1,
+        write1: a[1] == 1,
+        write2: a[2] == 1,
+    }
+}
+
+fn scfsi_of(number: u64) -> Scfsi {
+    match number {
+        0 => Scfsi::ThreePerGranule,
+        1 => Scfsi::Share01Then2,
+        2 => Scfsi::ShareAll,
+        3 => Scfsi::Share0Then12,
+        _ => unreachable!("an scfsi is 0 to 3"),
+    }
+}
 
 pub fn selection(indices: [u8; 3]) -> [u64; 9] {
     let chosen = select_scfsi(indices);

@@ -1,5 +1,5 @@
 -- A decimal number by one division: digits below 10 ^ 15 and powers of ten up to 10 ^ 15 are exact in binary64, so only the quotient is rounded.
-use mathlib.Core.Path.{_≡_, refl}
+use mathlib.Core.Path.{_≡_, refl, ap, _∙_}
 use mathlib.Core.Bool.{Bool, true, false, cond, _&&_}
 use mathlib.Core.List.{List, _++_}
 use mathlib.Core.Option.{none, some}
@@ -46,8 +46,8 @@ whole-quotient n d h p g =
 pub tens : (n : ℕ) → n ≤ 15 → 10 ^ n ≤ 10 ^ 15
 tens n h = pow-le-pow-right (omega arith) h
 
-pub power-is : (i n p : ℕ) → i ≡ n → n ≤ 15 → p ≡ 10 ^ i → (p ≡ 10 ^ n) × (1 ≤ p) × (p ≤ 10 ^ 15)
-power-is i n p e h q = rw (q, e) (refl, ten-pos n, tens n h)
+pub power-is : (i n p : ℕ) → i ≡ n → p ≡ 10 ^ i → p ≡ 10 ^ n
+power-is i n p e q = q ∙ ap (λ (k : ℕ). 10 ^ k) e
 
 pub one-division : (n places : ℕ) → n < 10 ^ 15 → places ≤ 15
     → div binary64 (ofInt binary64 (pos n)) (ofInt binary64 (pos (10 ^ places))) ≡ decimal places n

@@ -128,7 +128,7 @@ fn nearest_decimal(whole: u64, fraction: u64, places: usize) -> f64
 
 fn power_of_ten(n: usize) -> u64
     requires { ⌜ n ≤ 15 ⌝ }
-    ensures { λ r. ⌜ (r ≡ 10 ^ n) × (1 ≤ r) × (r ≤ 10 ^ 15) ⌝ }
+    ensures { λ r. ⌜ r ≡ 10 ^ n ⌝ }
 {
     let mut power: u64 = 1;
     let mut i = 0;

@@ -1,59 +1,5 @@
-// The verdict on a line: the library's answers beside the numbers that the line expects.
+// The library's answers as the numbers of a line.
 use bitalloc::BitAllocTable;
-use bitalloc::OptionU32;
-
-pub enum Verdict {
-    Agree,
-    Differ,
-    // The kind is not known, the count of numbers is not the kind's, or the library's types cannot hold an argument.
-    Unread,
-}
-
-// The verdict on a line: whether it has its kind's count of numbers, with arguments that the library's types can hold, and
-// whether what the library answers is what it expects.
-pub fn verdict_of(read: bool, agrees: bool) -> Verdict {
-    if !read {
-        return Verdict::Unread;
-    }
-    if agrees {
-        Verdict::Agree
-    } else {
-        Verdict::Differ
-    }
-}
-
-// The verdict where the answer is two numbers.
-pub fn pair_verdict(
-    counted: bool,
-    number: u64,
-    value: u64,
-    expected_number: u64,
-    expected_value: u64,
-) -> Verdict {
-    verdict_of(
-        counted,
-        number == expected_number && value == expected_value,
-    )
-}
-
-// The verdict where the answer is a number or nothing.
-pub fn found_verdict(
-    counted: bool,
-    answer: OptionU32,
-    expected_found: u64,
-    expected_value: u64,
-) -> Verdict {
-    match answer {
-        OptionU32::Some(value) => pair_verdict(
-            counted,
-            1,
-            value as u64,
-            expected_found,
-            expected_value,
-        ),
-        OptionU32::None => pair_verdict(counted, 0, 0, expected_found, expected_value),
-    }
-}
 
 // A double's bit pattern; one and the same for each NaN.
 pub fn bits_of(x: f64) -> u64 {
@@ -76,21 +22,4 @@ pub fn table_number(table: BitAllocTable) -> u64 {
         BitAllocTable::B2d => 3,
         BitAllocTable::B1Lsf => 4,
     }
-}
-
-// Whether the numbers of a line from `at` on are these.
-pub fn same_numbers(numbers: &[u64; 256], at: usize, answers: &[u64]) -> bool {
-    let mut place = at;
-    let mut i: usize = 0;
-    while i < answers.len() {
-        if place >= 256 {
-            return false;
-        }
-        if numbers[place] != answers[i] {
-            return false;
-        }
-        place = place + 1;
-        i = i + 1;
-    }
-    true
 }

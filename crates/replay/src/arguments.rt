@@ -1,4 +1,5 @@
 // The arguments of a line: from its numbers to values of the library's types.
+use audio_data::Scfsi;
 use bitalloc::BitAllocTable;
 use bitalloc::OptionTable;
 use bitalloc::OptionU32;
@@ -80,6 +81,22 @@ pub fn extension_of(n: u64) -> OptionExtension {
         2 => OptionExtension::Some(ModeExtension::Bound12),
         3 => OptionExtension::Some(ModeExtension::Bound16),
         _ => OptionExtension::None,
+    }
+}
+
+pub enum OptionScfsi {
+    Some(Scfsi),
+    None,
+}
+
+// The scfsi of a two-bit code.
+pub fn scfsi_of(n: u64) -> OptionScfsi {
+    match n {
+        0 => OptionScfsi::Some(Scfsi::ThreePerGranule),
+        1 => OptionScfsi::Some(Scfsi::Share01Then2),
+        2 => OptionScfsi::Some(Scfsi::ShareAll),
+        3 => OptionScfsi::Some(Scfsi::Share0Then12),
+        _ => OptionScfsi::None,
     }
 }
 

@@ -1,19 +1,22 @@
 // Kinds of a frame's bits: those that are fixed, offered and demanded, and their allocation.
-use crate::answers::Verdict;
 use crate::answers::bits_of;
-use crate::answers::pair_verdict;
-use crate::answers::same_numbers;
 use crate::answers::table_number;
-use crate::answers::verdict_of;
 use crate::arguments::OptionHeader;
 use crate::arguments::header_of;
 use crate::arguments::i64_of;
 use crate::arguments::read_doubles;
+use crate::arguments::table_of;
 use crate::arguments::u32_of;
+use bitalloc::OptionTable;
 use bitalloc::OptionU32;
 use encoder_bit_allocator::Allocation;
 use encoder_bit_budget::Budget;
+use encoder_bit_budget::FixedBitBudget;
 use encoder_bit_budget::OptionF64;
+use replay_answers::Verdict;
+use replay_answers::pair_verdict;
+use replay_answers::same_numbers;
+use replay_answers::verdict_of;
 ghost use Prim.Native.Nat.{_≤_};
 
 // Steps -> found ratio.
@@ -142,4 +145,34 @@ fn same_steps(numbers: &[u64; 256], at: usize, steps: &[u32; 64]) -> bool
 
 fn wide(steps: u32) -> u64 {
     steps as u64
+}
+
+// cb bhdr bcrc bbal sblimit bound channels table -> the bits that are fixed. The budget may be one that no header has.
+pub fn fixed(count: usize, numbers: &[u64; 256]) -> Verdict {
+    let OptionU32::Some(cb) = u32_of(numbers[1]) else {
+        return Verdict::Unread;
+    };
+    let OptionU32::Some(bhdr) = u32_of(numbers[2]) else {
+        return Verdict::Unread;
+    };
+    let OptionU32::Some(bcrc) = u32_of(numbers[3]) else {
+        return Verdict::Unread;
+    };
+    let OptionU32::Some(bbal) = u32_of(numbers[4]) else {
+        return Verdict::Unread;
+    };
+    let OptionTable::Some(table) = table_of(numbers[8]) else {
+        return Verdict::Unread;
+    };
+    let budget = FixedBitBudget {
+        cb,
+        bhdr,
+        bcrc,
+        bbal,
+        sblimit: numbers[5] as usize,
+        bound: numbers[6] as usize,
+        channels: numbers[7] as usize,
+        table,
+    };
+    verdict_of(count == 10, budget.fixed() == numbers[9])
 }

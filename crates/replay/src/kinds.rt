@@ -2,11 +2,11 @@
 // back with the answers that the line has behind them. A new kind is its function, an arm of `replay`, and its name as
 // an arm of one of the functions that `print_name` calls. Tests are joined by `&` where the check of a branch would take
 // longer.
-use crate::answers::Verdict;
 use crate::budget_kinds;
 use crate::sample_kinds;
 use crate::scalefactor_kinds;
 use crate::table_kinds;
+use replay_answers::Verdict;
 
 // Replays a line of `count` numbers, the first of which is the kind. The functions that it calls take the same two, and
 // their comments say what stands behind the kind: the arguments, an arrow, the expected answers. H is a header, as
@@ -43,6 +43,9 @@ pub fn replay(count: usize, numbers: &[u64; 256]) -> Verdict {
         27 => budget_kinds::available_data_bits(count, numbers),
         28 => budget_kinds::demand_bits(count, numbers),
         29 => budget_kinds::allocate_bits(count, numbers),
+        30 => scalefactor_kinds::transmitted_count(count, numbers),
+        31 => scalefactor_kinds::parts_on_wire(count, numbers),
+        32 => budget_kinds::fixed(count, numbers),
         _ => Verdict::Unread,
     }
 }
@@ -54,7 +57,7 @@ pub fn print_name(kind: usize) -> bool {
         1..=10 => print_table_name(kind),
         11..=16 => print_class_name(kind),
         17..=24 => print_sample_name(kind),
-        25..=29 => print_budget_name(kind),
+        25..=32 => print_budget_name(kind),
         _ => false,
     }
 }
@@ -108,6 +111,9 @@ fn print_budget_name(kind: usize) -> bool {
         27 => io::write_all(1, b"available_data_bits"),
         28 => io::write_all(1, b"demand_bits"),
         29 => io::write_all(1, b"allocate_bits"),
+        30 => io::write_all(1, b"transmitted_count"),
+        31 => io::write_all(1, b"parts_on_wire"),
+        32 => io::write_all(1, b"fixed"),
         _ => false,
     }
 }

@@ -1,12 +1,12 @@
 // Kinds of sample codes.
-use crate::answers::Verdict;
-use crate::answers::same_numbers;
-use crate::answers::verdict_of;
 use crate::arguments::double;
 use crate::arguments::u32_of;
 use bitalloc::OptionU32;
 use encoder_samples::SampleCode;
 use encoder_samples::TripletAnswer;
+use replay_answers::Verdict;
+use replay_answers::same_numbers;
+use replay_answers::verdict_of;
 
 // Steps sample -> number code: the number is 0, or 5 where no class has these steps.
 pub fn quantize_sample(count: usize, numbers: &[u64; 256]) -> Verdict {

@@ -1,11 +1,14 @@
 // Kinds of scalefactor indices and of their selection.
-use crate::answers::Verdict;
 use crate::answers::flag;
-use crate::answers::same_numbers;
-use crate::answers::verdict_of;
+use crate::arguments::OptionScfsi;
 use crate::arguments::double;
 use crate::arguments::i16_of;
 use crate::arguments::read_doubles;
+use crate::arguments::scfsi_of;
+use encoder_scfsi::TransmissionPattern;
+use replay_answers::Verdict;
+use replay_answers::same_numbers;
+use replay_answers::verdict_of;
 ghost use Prim.Native.Nat.{_≤_};
 
 // Magnitude -> index.
@@ -165,4 +168,28 @@ pub fn classify_difference(count: usize, numbers: &[u64; 256]) -> Verdict {
     }
     let class = encoder_scfsi::classify_difference(i16_of(bits as u16));
     verdict_of(count == 3, class.as_index() as u64 == numbers[2])
+}
+
+// For each of three indices 1 where it is transmitted, else 0 -> how many are.
+pub fn transmitted_count(count: usize, numbers: &[u64; 256]) -> Verdict {
+    let a = numbers[1];
+    let b = numbers[2];
+    let c = numbers[3];
+    let pattern = TransmissionPattern {
+        write0: a == 1,
+        write1: b == 1,
+        write2: c == 1,
+    };
+    verdict_of(
+        ((a | b | c) < 2) & (count == 5),
+        pattern.transmitted_count() as u64 == numbers[4],
+    )
+}
+
+// Code of the scfsi -> how many indices are transmitted.
+pub fn parts_on_wire(count: usize, numbers: &[u64; 256]) -> Verdict {
+    let OptionScfsi::Some(scfsi) = scfsi_of(numbers[1]) else {
+        return Verdict::Unread;
+    };
+    verdict_of(count == 3, scfsi.parts_on_wire() as u64 == numbers[2])
 }

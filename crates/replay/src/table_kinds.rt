@@ -1,12 +1,7 @@
 // Kinds of headers, allocation tables, classes of quantization and multipliers.
-use crate::answers::Verdict;
 use crate::answers::bits_of;
 use crate::answers::flag;
-use crate::answers::found_verdict;
-use crate::answers::pair_verdict;
-use crate::answers::same_numbers;
 use crate::answers::table_number;
-use crate::answers::verdict_of;
 use crate::arguments::OptionExtension;
 use crate::arguments::OptionHeader;
 use crate::arguments::OptionMode;
@@ -20,6 +15,11 @@ use bitalloc::OptionTable;
 use bitalloc::OptionU32;
 use bitalloc::QuantClass;
 use header::FrameSize;
+use replay_answers::Verdict;
+use replay_answers::found_verdict;
+use replay_answers::pair_verdict;
+use replay_answers::same_numbers;
+use replay_answers::verdict_of;
 
 // Table -> sblimit.
 pub fn sblimit(count: usize, numbers: &[u64; 256]) -> Verdict {

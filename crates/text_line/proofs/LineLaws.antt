@@ -4,9 +4,10 @@ use mathlib.Core.List.{List, [], _∷_, _++_, append-assoc}
 use Prim.Native.Nat.{ℕ, zero, suc, _+_, _-_, _≤_, min}
 use native.Mathlib.Nat.{le-refl, zero-min, min-zero, suc-min-suc}
 use native.Mathlib.Omega.{arith}
-use lib.ListN.{length, take, replicate, length-take, length-append, length-replicate}
-use lib.Seq.{paste, take-paste, take-nil, take-take, take-all, take-append-add}
-use Rattle.text_line.specs.Line.{cut, spaces, aligned}
+use native.Mathlib.Numerals.{add-one}
+use lib.ListN.{length, take, set, replicate, length-take, length-append, length-replicate}
+use lib.Seq.{paste, length-paste, take-paste, take-suc-set, take-nil, take-take, take-all, take-append-add}
+use Rattle.text_line.specs.Line.{cut, spaces, aligned, fed}
 
 -- ---- parts of lists
 
@@ -59,6 +60,20 @@ pasted bytes added len at n e a b =
     ∙ ap (λ (t : List ℕ). front ++ t) rest
     ∙ sym (take-append-add front added (256 - at))
     ∙ ap (λ (k : ℕ). take k (front ++ added)) there
+
+-- all of a text is copied, and a line feed is put behind it
+pub ended-by : (bytes space full : List ℕ) (len n : ℕ) → length bytes ≡ 256 → length space ≡ 257 → n ≡ min len 256 → full ≡ paste space 0 bytes n
+    → take (n + 1) (set full n 10) ≡ fed (take len bytes)
+ended-by bytes space full len n e s a f =
+    let first : n ≡ min len (length bytes) = omega arith in
+    let start : n ≡ 0 + n = omega arith in
+    let long : length full ≡ 257 = ap length f ∙ length-paste space 0 bytes n (omega arith) (omega arith) ∙ s in
+    let same : take n bytes ≡ take len bytes = ap (λ (k : ℕ). take k bytes) first ∙ take-min len bytes in
+    ap (λ (k : ℕ). take k (set full n 10)) (add-one n)
+    ∙ take-suc-set full n 10 (omega arith)
+    ∙ ap (λ (t : List ℕ). take n t ++ 10 ∷ []) f
+    ∙ ap (λ (k : ℕ). take k (paste space 0 bytes n) ++ 10 ∷ []) start
+    ∙ ap (λ (t : List ℕ). t ++ 10 ∷ []) (take-paste space 0 bytes n (omega arith) (omega arith) ∙ same)
 
 -- as many spaces as a line holds
 pub blanks : (t r b : List ℕ) (n k : ℕ) → b ≡ spaces 256 → k ≡ min n 256 → r ≡ cut (t ++ take k b) → r ≡ cut (t ++ spaces n)

@@ -3,10 +3,10 @@
 ghost use mathlib.Core.Path.{_≡_};
 ghost use mathlib.Core.Bool.{cond};
 ghost use mathlib.Core.List.{[], _++_};
-ghost use Prim.Native.Nat.{_+_, _-_, _^_, _≤_, min};
+ghost use Prim.Native.Nat.{_+_, _-_, _≤_, min};
 ghost use lib.ListN.{length};
 ghost use lib.Seq.{paste};
-ghost use Rattle.text_line.specs.Line.{text, textOf, cut, spaces, aligned};
+ghost use Rattle.text_line.specs.Line.{text, textOf, cut, spaces, aligned, EndedIs};
 ghost use Rattle.text_line.specs.Number.{numberText};
 ghost use Rattle.text_line.specs.Ratio.{minusText, hundredthsOf, hundredthsText, finiteText, ratioText};
 
@@ -14,6 +14,12 @@ ghost use Rattle.text_line.specs.Ratio.{minusText, hundredthsOf, hundred
 pub struct Line {
     pub bytes: [u8; 256],
     pub length: usize,
+}
+
+// A line as it is written, with its line feed: the first `size` bytes.
+pub struct EndedLine {
+    pub bytes: [u8; 257],
+    pub size: usize,
 }
 
 impl Line {
@@ -27,11 +33,16 @@ impl Line {
         }
     }
 
-    // How many bytes the text has.
-    pub fn size(self) -> usize
-        ensures { λ r. ⌜ (r ≡ length (textOf self)) × (r ≤ 256) ⌝ }
+    // The text with a line feed behind it.
+    pub fn ended(self) -> EndedLine
+        ensures { λ r. ⌜ EndedIs self r ⌝ }
     {
-        least(self.length, 256)
+        let text = self.bytes;
+        let n = least(self.length, 256);
+        let mut bytes = [0u8; 257];
+        copy(&text, n, &mut bytes, 0);
+        bytes[n] = b'\n';
+        EndedLine { bytes, size: n + 1 }
     }
 
     // With a text behind.
@@ -140,7 +151,11 @@ impl Line {
     fn minus(self, below: bool) -> Line
         ensures { λ r. ⌜ textOf r ≡ cut (textOf self ++ minusText below) ⌝ }
     {
-        if below { self.text(b"-") } else { self.text(b"") }
+        if below {
+            self.text(b"-")
+        } else {
+            self.text(b"")
+        }
     }
 }
 
@@ -179,7 +194,7 @@ fn above(a: usize, b: usize) -> usize
 
 // 100 times a magnitude, in one rounding, as the nearest whole number, halves up, at most 2^32; 0 for a NaN.
 fn hundredths(magnitude: f64) -> u64
-    ensures { λ r. ⌜ (r ≡ hundredthsOf magnitude) × (r ≤ 2 ^ 32) ⌝ }
+    ensures { λ r. ⌜ r ≡ hundredthsOf magnitude ⌝ }
 {
     encoder_samples::nearest_whole(magnitude * 100.0)
 }

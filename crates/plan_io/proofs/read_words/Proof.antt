@@ -1,26 +1,20 @@
--- `plan_io::read_words` meets its contract.
+-- `plan_io::read_words` meets its contract. The loop's invariant: the words so far lie one behind the other, or the buffer is full.
 use mathlib.Core.Path.{_≡_}
 use Prim.Native.Nat.{_-_, _≤_}
 use lib.ListN.{length}
 use borrow.Author.Needs.{needs}
+use Rattle.plan_io.proofs.WordLaws.{ReadSoFar, none-yet, one-more, all-read}
 use Rattle.plan_io.proofs.read_words.Statement.{statement}
 use Rattle.plan_io.proofs.read_words.Tie as tie
-use Rattle.plan_io.proofs.read_words.Reads as reads
-use Rattle.plan_io.proofs.read_words.Lts as lts
-use Rattle.os.proofs.arg_count.Reads as arg-count-reads
-use Rattle.plan_io.proofs.read_word.Reads as read-word-reads
 
 abbrev Inv-loop : tie.InvT-loop
-Inv-loop words₀ end at₀ i₀ words at i = (at ≤ length words₀) × (length words ≡ length words₀)
+Inv-loop count words₀ at₀ i₀ words at i = ReadSoFar words₀ words at i × (i - 1 ≤ count - 1)
 
 abbrev μ-loop : tie.MeasureT-loop
-μ-loop words₀ end at₀ i₀ words at i = end - i
-
-arg-count-requires : tie.Need-arg-count-requires Inv-loop μ-loop
-arg-count-requires c κs = search needs
+μ-loop count words₀ at₀ i₀ words at i = count - i
 
 loop-holds : tie.Need-loop-holds Inv-loop μ-loop
-loop-holds c = search needs
+loop-holds c = (none-yet _, search needs)
 
 read-word-requires : tie.Need-read-word-requires Inv-loop μ-loop
 read-word-requires c κs = search needs
@@ -32,13 +26,13 @@ loop-less : tie.Need-loop-less Inv-loop μ-loop
 loop-less c = search needs
 
 loop-again : tie.Need-loop-again Inv-loop μ-loop
-loop-again c = search needs
+loop-again c = (one-more (c .before .before .before .before .before .loop .inv .0) (c .before .before .read-word .ensures), search needs)
 
 same-length : tie.Need-same-length Inv-loop μ-loop
 same-length c = search needs
 
 returns : tie.Need-returns Inv-loop μ-loop
-returns c = search needs
+returns c = all-read (c .before .loop .inv .0) (c .loop-test .left) (c .before .loop .inv .1)
 
 pub read-words-spec : {M : Type 1} → statement M
 read-words-spec =
@@ -46,7 +40,6 @@ read-words-spec =
     (tie.spec
     Inv-loop
     μ-loop
-    arg-count-requires
     loop-holds
     read-word-requires
     add-i

@@ -2,11 +2,15 @@
 use mathlib.Core.Path.{sym}
 use lib.Seq.{length-take-le}
 use borrow.Author.Needs.{needs}
+use Rattle.plan_io.proofs.WrittenLaws.{all-written}
 use Rattle.plan_io.proofs.run.Statement.{statement}
 use Rattle.plan_io.proofs.run.Tie as tie
 
 buffer-requires : tie.Need-buffer-requires
 buffer-requires c κs = search needs
+
+arg-count-requires : tie.Need-arg-count-requires
+arg-count-requires c κs = search needs
 
 slice-aggregate-read-words : tie.Need-slice-aggregate-read-words
 slice-aggregate-read-words c = search needs
@@ -23,7 +27,7 @@ array-share-prefix-words c = search needs
 slice-aggregate-read-ratios : tie.Need-slice-aggregate-read-ratios
 slice-aggregate-read-ratios c =
     let r = c .before .before .before in
-    sym (length-take-le _ (r .read-words .last .0) (search needs))
+    sym (length-take-le _ (r .read-words .last .1 .0) (search needs))
 
 slice-aggregate-read-ratios-2 : tie.Need-slice-aggregate-read-ratios-2
 slice-aggregate-read-ratios-2 c = search needs
@@ -37,7 +41,7 @@ array-share-prefix-words-2 c = search needs
 slice-aggregate-write-plan : tie.Need-slice-aggregate-write-plan
 slice-aggregate-write-plan c =
     let r = c .before .before .before .before .before .before .before in
-    sym (length-take-le _ (r .read-words .last .0) (search needs))
+    sym (length-take-le _ (r .read-words .last .1 .0) (search needs))
 
 array-share-prefix-input : tie.Need-array-share-prefix-input
 array-share-prefix-input c = search needs
@@ -51,13 +55,17 @@ write-plan-requires : tie.Need-write-plan-requires
 write-plan-requires c κs = search needs
 
 returns : tie.Need-returns
-returns c = search needs
+returns c =
+    let i = c .before .before .before .before in
+    let w = i .before .before .before .before .before in
+    all-written (w .before .before .arg-count .result) _ (w .read-words .last .1 .0) _ (i .read-ratios .last .1 .0) (w .read-words .result) (i .read-ratios .result) _ (search needs) (search needs) (w .read-words .ensures) (i .read-ratios .ensures) (c .write-plan .ensures)
 
 pub run-spec : {M : Type 1} → statement M
 run-spec =
     tie.close
     (tie.spec
     buffer-requires
+    arg-count-requires
     slice-aggregate-read-words
     read-words-requires
     large-buffer-requires

@@ -9,10 +9,10 @@ power-of-ten-requires : tie.Need-power-of-ten-requires
 power-of-ten-requires c κs = search needs
 
 mul-digits : tie.Need-mul-digits
-mul-digits c = let h = c .before .pre .1 in rw (c .power-of-ten .ensures .0) (record { fits = omega arith })
+mul-digits c = let h = c .before .pre .1 in rw (c .power-of-ten .ensures) (record { fits = omega arith })
 
 add-digits : tie.Need-add-digits
-add-digits c = let h = c .before .pre .1 in rw (c .power-of-ten .ensures .0) (record { fits = omega arith })
+add-digits c = let h = c .before .pre .1 in rw (c .power-of-ten .ensures) (record { fits = omega arith })
 
 nearest-u64-to-f64-requires : tie.Need-nearest-u64-to-f64-requires
 nearest-u64-to-f64-requires c κs = search needs
@@ -23,7 +23,7 @@ nearest-u64-to-f64-requires-2 c κs = search needs
 returns : tie.Need-returns
 returns c =
     let p = c .before .before in
-    rw (c .before .nearest-u64-to-f64 .ensures, c .nearest-u64-to-f642 .ensures, p .power-of-ten .ensures .0)
+    rw (c .before .nearest-u64-to-f64 .ensures, c .nearest-u64-to-f642 .ensures, p .power-of-ten .ensures)
     (one-division _ _ (p .before .pre .1) (p .before .pre .0))
 
 pub nearest-decimal-spec : {M : Type 1} → statement M

@@ -31,7 +31,7 @@ loop-again : tie.Need-loop-again Inv-loop μ-loop
 loop-again c = (search needs, rw (add-one (c .before .loop .i), pow-suc 10 (c .before .loop .i), ← c .before .loop .inv .1))
 
 returns : tie.Need-returns Inv-loop μ-loop
-returns c = power-is _ _ _ (search needs) (c .before .before .pre) (c .before .loop .inv .1)
+returns c = power-is _ _ _ (search needs) (c .before .loop .inv .1)
 
 pub power-of-ten-spec : {M : Type 1} → statement M
 power-of-ten-spec =

@@ -42,7 +42,7 @@ returns c =
     let s = a .before in
     c .finite .ensures
     ∙ ap (λ (t : List ℕ). cut (textOf (s .args .self) ++ t))
-    (ap (finiteText (lt (s .args .x) nought)) (c .before .hundredths .ensures .0 ∙ ap hundredthsOf (a .abs .ensures))
+    (ap (finiteText (lt (s .args .x) nought)) (c .before .hundredths .ensures ∙ ap hundredthsOf (a .abs .ensures))
     ∙ sym (is-finite (s .args .x) (subst (λ (y : Float). lt y infinity ≡ true) (a .abs .ensures) (c .before .before .if1 .taken))))
 
 returns-2 : tie.Need-returns-2
