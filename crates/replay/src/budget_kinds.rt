@@ -149,30 +149,23 @@ fn wide(steps: u32) -> u64 {
 
 // cb bhdr bcrc bbal sblimit bound channels table -> the bits that are fixed. The budget may be one that no header has.
 pub fn fixed(count: usize, numbers: &[u64; 256]) -> Verdict {
-    let OptionU32::Some(cb) = u32_of(numbers[1]) else {
-        return Verdict::Unread;
-    };
-    let OptionU32::Some(bhdr) = u32_of(numbers[2]) else {
-        return Verdict::Unread;
-    };
-    let OptionU32::Some(bcrc) = u32_of(numbers[3]) else {
-        return Verdict::Unread;
-    };
-    let OptionU32::Some(bbal) = u32_of(numbers[4]) else {
-        return Verdict::Unread;
-    };
     let OptionTable::Some(table) = table_of(numbers[8]) else {
         return Verdict::Unread;
     };
     let budget = FixedBitBudget {
-        cb,
-        bhdr,
-        bcrc,
-        bbal,
+        cb: low_word(numbers[1]),
+        bhdr: low_word(numbers[2]),
+        bcrc: low_word(numbers[3]),
+        bbal: low_word(numbers[4]),
         sblimit: numbers[5] as usize,
         bound: numbers[6] as usize,
         channels: numbers[7] as usize,
         table,
     };
-    verdict_of(count == 10, budget.fixed() == numbers[9])
+    let fits = (numbers[1] | numbers[2] | numbers[3] | numbers[4]) <= 0xffff_ffff;
+    verdict_of(fits & (count == 10), budget.fixed() == numbers[9])
+}
+
+fn low_word(n: u64) -> u32 {
+    (n % 0x1_0000_0000) as u32
 }

@@ -57,7 +57,8 @@ pub fn print_name(kind: usize) -> bool {
         1..=10 => print_table_name(kind),
         11..=16 => print_class_name(kind),
         17..=24 => print_sample_name(kind),
-        25..=32 => print_budget_name(kind),
+        25..=29 => print_budget_name(kind),
+        30..=32 => print_count_name(kind),
         _ => false,
     }
 }
@@ -111,6 +112,12 @@ fn print_budget_name(kind: usize) -> bool {
         27 => io::write_all(1, b"available_data_bits"),
         28 => io::write_all(1, b"demand_bits"),
         29 => io::write_all(1, b"allocate_bits"),
+        _ => false,
+    }
+}
+
+fn print_count_name(kind: usize) -> bool {
+    match kind {
         30 => io::write_all(1, b"transmitted_count"),
         31 => io::write_all(1, b"parts_on_wire"),
         32 => io::write_all(1, b"fixed"),
