@@ -1,4 +1,4 @@
--- Table C.5: what each ratio is, that the ratios rise with the steps, and which steps are not in it, each by one test that antt computes.
+-- Table C.5: its rule, by one test that antt computes over the table, and the row of a number of steps.
 use mathlib.Core.Path.{_≡_, refl, sym, ap, _∙_, subst, subst₂}
 use mathlib.Core.Bool.{Bool, false, not, _&&_, _||_}
 use mathlib.Core.Logic.{⊎-elim}
@@ -11,7 +11,7 @@ use types.Run.{OneOf}
 use lib.Count.{leadingZeros}
 use lib.ListN.{getD, getElem?}
 use lib.Dec.{T, ltb, eqb}
-use lib.Ieee.{Float, nan, inf, fin, binary64, lt, le, fits}
+use lib.Ieee.{Float, nan, inf, fin, lt, le, isNan}
 use lib.Ieee.Scale.{finite}
 use lib.IntN.{pos}
 use borrow.Author.Tests.{lt-ltb, ne-eqb, eqb-true}
@@ -20,7 +20,7 @@ use Rattle.tables.proofs.Rule.{first, second, all}
 use Rattle.tables.proofs.Search.{there, past, find-passes, none-passes}
 use Rattle.tables.proofs.Keys.{Each, at-key, no-key}
 use Rattle.ieee_order.proofs.Order.{finite-number, float-lt-le, float-refl}
-use Rattle.encoder_bit_budget.specs.Snr.{Ratio, RatioRule, ratios, decibels, rowNumber, orPast, snrOf}
+use Rattle.encoder_bit_budget.specs.Snr.{Ratio, ratios, decibels, rowNumber, orPast, snrOf}
 
 -- what a found ratio was found in
 of-row : (o : Option Ratio) (x : Float) → Option·map (λ r. r .db) o ≡ some x → (r : Ratio) × (o ≡ some r) × (r .db ≡ x)
@@ -35,41 +35,38 @@ row-of p steps x t e =
     let g = find-passes (λ r. eqb (r .steps) steps) p ratios (r .0) t (r .1) in
     subst₂ (λ (s : ℕ) (y : Float). T (p (record { steps = s; db = y }))) (eqb-true _ _ (g .0)) (r .2) (g .1)
 
--- ---- the rule of every ratio
+-- ---- the rule of the table: each ratio is a finite number, at least 0, and the ratios rise with the steps
 
-sound : Ratio → Bool
-sound r = finite (r .db) && (fits binary64 (r .db) && le (fin false 0 (pos 0)) (r .db))
+ruled : Ratio → Ratio → Bool
+ruled p q = finite (p .db) && (le (fin false 0 (pos 0)) (p .db) && (not (ltb (p .steps) (q .steps)) || lt (p .db) (q .db)))
 
-computed-sound : T (all sound ratios)
-unfolding sound ratios fits le
-computed-sound = tt
+computed : T (all (λ p. all (ruled p) ratios) ratios)
+unfolding ruled ratios le lt
+computed = tt
+
+rule-of : (a b : ℕ) (x y : Float) → snrOf a ≡ some x → snrOf b ≡ some y → T (ruled (record { steps = a; db = x }) (record { steps = b; db = y }))
+rule-of a b x y e f = row-of (ruled (record { steps = a; db = x })) b y (row-of (λ p. all (ruled p) ratios) a x computed e) f
+
+pub record RatioRule (x : Float) : Type 0 where
+  pub number : isNan x ≡ false
+  pub finite : T (finite x)
+  pub least : T (le (fin false 0 (pos 0)) x)
 
 pub ratio-rule : (steps : ℕ) (x : Float) → snrOf steps ≡ some x → RatioRule x
-unfolding sound
+unfolding ruled
 ratio-rule steps x e =
-    let t = row-of sound steps x computed-sound e in
-    let u = second (finite x) _ t in
+    let t = rule-of steps steps x x e e in
     record {
       number = finite-number x (first (finite x) _ t);
       finite = first (finite x) _ t;
-      fits = first (fits binary64 x) _ u;
-      least = second (fits binary64 x) _ u
+      least = first (le (fin false 0 (pos 0)) x) _ (second (finite x) _ t)
     }
 
--- ---- the ratios rise with the steps
-
-rising : Ratio → Ratio → Bool
-rising p q = not (ltb (p .steps) (q .steps)) || lt (p .db) (q .db)
-
-computed-rising : T (all (λ p. all (rising p) ratios) ratios)
-unfolding rising ratios lt
-computed-rising = tt
-
 pub ratio-rises : (a b : ℕ) (x y : Float) → snrOf a ≡ some x → snrOf b ≡ some y → a < b → T (lt x y)
-unfolding rising
+unfolding ruled
 ratio-rises a b x y e f h =
-    let p : Ratio = record { steps = a; db = x } in
-    rw (lt-ltb a b h) at (row-of (rising p) b y (row-of (λ p. all (rising p) ratios) a x computed-rising e) f)
+    let t = second (le (fin false 0 (pos 0)) x) _ (second (finite x) _ (rule-of a b x y e f)) in
+    rw (lt-ltb a b h) at t
 
 pub ratio-le : (a b : ℕ) (x y : Float) → snrOf a ≡ some x → snrOf b ≡ some y → a ≤ b → T (le x y)
 ratio-le a b x y e f h =

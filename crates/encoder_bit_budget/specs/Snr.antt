@@ -1,13 +1,9 @@
 -- Signal-to-noise ratios: Table C.5 of ISO/IEC 11172-3, "Layer II Signal-to-Noise Ratios".
 use Prim.Native.Nat.{ℕ}
-use mathlib.Core.Path.{_≡_}
-use mathlib.Core.Bool.{false}
 use mathlib.Core.List.{List, [], _∷_, map}
 use mathlib.Core.Option.{Option, none, some, Option·map}
-use lib.Dec.{T, eqb}
-use lib.Ieee.{Float, nan, fin, binary64, le, fits, isNan}
-use lib.Ieee.Scale.{finite}
-use lib.IntN.{pos}
+use lib.Dec.{eqb}
+use lib.Ieee.{Float, nan}
 use Rattle.tables.specs.Decimal.{decimal}
 use Rattle.tables.specs.Search.{place, find}
 use Rattle.encoder_bit_budget.specs.declared.OptionF64.{OptionF64}
@@ -77,10 +73,3 @@ snr steps = orNan (snrOf steps)
 abbrev pub ratioIn : OptionF64 → Option Float
 ratioIn (Some x) = some x
 ratioIn None = none
-
--- the rule of every ratio of the table: a finite number that binary64 holds, at least 0
-pub record RatioRule (x : Float) : Type 0 where
-  pub number : isNan x ≡ false
-  pub finite : T (finite x)
-  pub fits : T (fits binary64 x)
-  pub least : T (le (fin false 0 (pos 0)) x)

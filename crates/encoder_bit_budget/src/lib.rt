@@ -26,7 +26,7 @@ const SNR_DB: [f64; 18] = [
 ];
 
 // The whole table. Reading a constant table rebuilds it, so a caller that reads many entries takes it once.
-pub fn snr_table() -> [f64; 18]
+fn snr_table() -> [f64; 18]
     ensures { λ r. ⌜ r ≡ decibels ⌝ }
 {
     SNR_DB

@@ -2,15 +2,14 @@
 use mathlib.Core.Path.{_≡_, sym, ap, _∙_, subst}
 use mathlib.Core.Bool.{Bool, true, false, true≢false}
 use mathlib.Core.List.{List}
-use Prim.Native.Nat.{ℕ, _+_, _-_, _≤_, _<_}
+use Prim.Native.Nat.{ℕ, _+_, _≤_, _<_}
 use native.Mathlib.Decide.{decLt}
 use native.Mathlib.Omega.{arith}
 use lib.Dec.{T, ltb, ltb→lt}
 use lib.ListN.{length, take}
-use lib.Seq.{length-take-le}
 use borrow.Author.Tests.{lt-ltb}
 use Rattle.planner.specs.Planner.{planOf}
-use Rattle.plan_io.specs.Words.{WordsRead, RatiosRead}
+use Rattle.plan_io.specs.Words.{RatiosRead}
 use Rattle.plan_io.specs.Written.{linesOf, Written}
 
 -- as many lines are there
@@ -39,13 +38,11 @@ unfolding Counted linesOf
 counted-out words input n l m c = omega arith
 
 -- the words and the input that were read are those of the answer
-pub all-written : (count : ℕ) (old new inputOld inputNew : List ℕ) (size n r : ℕ) → length old ≡ 4096 → length new ≡ length old
-    → WordsRead count old new size → RatiosRead (take size new) inputOld inputNew n → r ≡ linesOf (take size new) (take n inputNew) → Written r
-all-written count old new inputOld inputNew size n r e l w i a = record {
+pub all-written : (new inputOld inputNew : List ℕ) (size n r : ℕ) → RatiosRead (take size new) inputOld inputNew n
+    → r ≡ linesOf (take size new) (take n inputNew) → Written r
+all-written new inputOld inputNew size n r i a = record {
   words = take size new;
   input = take n inputNew;
-  count = count - 1;
-  whole = λ h. w .words (omega (arith, length-take-le size new (omega (arith, w .within))));
   unasked = λ h. ap (λ (k : ℕ). take k inputNew) (i .unasked h);
   all = a;
 }

@@ -58,7 +58,8 @@ returns : tie.Need-returns
 returns c =
     let i = c .before .before .before .before in
     let w = i .before .before .before .before .before in
-    all-written (w .before .before .arg-count .result) _ (w .read-words .last .1 .0) _ (i .read-ratios .last .1 .0) (w .read-words .result) (i .read-ratios .result) _ (search needs) (search needs) (w .read-words .ensures) (i .read-ratios .ensures) (c .write-plan .ensures)
+    all-written (w .read-words .last .1 .0) _ (i .read-ratios .last .1 .0) (w .read-words .result) (i .read-ratios .result) _ (i .read-ratios .ensures)
+    (c .write-plan .ensures)
 
 pub run-spec : {M : Type 1} → statement M
 run-spec =
