@@ -613,7 +613,7 @@ static void check_compute_scalefactors(void)
 {
     static const struct function f = {"compute_scalefactors", {1152, 0, 96}, {sizeof(double), 0, 1}, call_compute_scalefactors};
     static const uint8_t of_subbands[3][2] = {{3, 0}, {3, 62}, {3, 0}};
-    static const uint64_t limits[] = {0, 1, 2, 32, UINT64_MAX};
+    static const uint64_t limits[] = {0, 1, 2, 32, 4294967297u, UINT64_MAX};
     struct arguments a = stereo();
     uint8_t expected[96];
     size_t i, granule, sb;

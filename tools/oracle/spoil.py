@@ -1,6 +1,6 @@
 #!/usr/bin/env python3
-"""Sees that the replay finds a wrong answer of every kind: changes the last number of one line of each kind in
-crates/replay/stdin, runs the built program on it, and compares what it prints with what it has to print.
+"""Sees that the replay finds a wrong answer of every kind: takes one line of each kind of crates/replay/stdin, changes each of its answers, one at a
+time, runs the built program on the line, and compares what it prints with what it has to print.
 
     python3 tools/oracle/spoil.py [PROGRAM [INPUT [OUTPUT]]]
 
@@ -14,30 +14,31 @@ import sys
 
 ROOT = pathlib.Path(__file__).resolve().parents[2]
 
+# How many answers stand at the end of a line, where it is not one: the comments at the head of INPUT describe them.
+ANSWERS = {3: 2, 4: 2, 8: 2, 9: 2, 10: 2, 11: 6, 19: 96, 20: 9, 22: 2, 23: 6, 25: 2, 26: 9, 27: 2, 28: 2, 29: 69}
+
 
 def lines_by_kind(lines):
-    """The places of the lines of each kind, by its number."""
-    places = {}
-    for place, line in enumerate(lines):
+    """The lines of each kind, by its number."""
+    found = {}
+    for line in lines:
         if line and not line.startswith("#"):
-            places.setdefault(int(line.split(" ", 1)[0]), []).append(place)
-    return places
+            found.setdefault(int(line.split(" ", 1)[0]), []).append(line)
+    return found
 
 
-def spoiled(line):
-    """The line with its last number, which every kind compares, one more or one less."""
-    front, last = line.rsplit(" ", 1)
-    number = int(last)
-    return f"{front} {number - 1 if number > 0 else 1}"
+def spoiled(line, place):
+    """The line with one number, counted from its end, one less, or 1 in place of 0."""
+    numbers = line.split(" ")
+    number = int(numbers[-place])
+    numbers[-place] = str(number - 1 if number > 0 else 1)
+    return " ".join(numbers)
 
 
-def expected(output, kind, number):
-    """What the program has to print: one line fewer agrees for the kind, and the first that does not is named."""
-    rows = list(output)
-    name, counts = rows[kind - 1].split(": ")
-    agreed, seen = counts.split(" agree")[0].split(" of ")
-    rows[kind - 1] = f"{name}: {int(agreed) - 1} of {seen} agree"
-    return name, rows + [f"first at line {number}"]
+def expected(names, kind, agreed):
+    """What the program has to print of one line alone."""
+    rows = [f"{name}: {agreed if at == kind else 0} of {1 if at == kind else 0} agree" for at, name in enumerate(names, 1)]
+    return rows + ["unread: 0"] + ([] if agreed else ["first at line 1"])
 
 
 def run(program, lines):
@@ -54,16 +55,17 @@ def main(words):
     if run(program, lines) != output:
         print("spoil: the unchanged input does not give the stored output")
         return 1
-    unnoticed = 0
+    names = [row.split(":")[0] for row in output if not row.startswith("unread")]
+    kinds = lines_by_kind(lines)
     choice = random.Random(1)
-    for kind, places in sorted(lines_by_kind(lines).items()):
-        place = choice.choice(places)
-        changed = lines[:place] + [spoiled(lines[place])] + lines[place + 1:]
-        name, rows = expected(output, kind, place + 1)
-        found = run(program, changed) == rows
-        unnoticed += not found
-        last = lines[place].rsplit(" ", 1)[1], changed[place].rsplit(" ", 1)[1]
-        print(f"{kind:2} {name}: line {place + 1}, {last[0]} as {last[1]}: {'found' if found else 'NOT FOUND'}")
+    unnoticed = 0
+    for kind, name in enumerate(names, 1):
+        line = choice.choice(kinds[kind])
+        answers = ANSWERS.get(kind, 1)
+        missed = [] if run(program, [line]) == expected(names, kind, 1) else [0]
+        missed += [p for p in range(1, answers + 1) if run(program, [spoiled(line, p)]) != expected(names, kind, 0)]
+        unnoticed += len(missed)
+        print(f"{kind:2} {name}: {answers} changed, {answers - len(missed)} found")
     print(f"{unnoticed} changes went unnoticed")
     return 1 if unnoticed else 0
 
