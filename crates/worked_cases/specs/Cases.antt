@@ -2,7 +2,7 @@
 use Prim.Native.Nat.{ℕ}
 use mathlib.Core.Path.{_≡_}
 use mathlib.Core.Bool.{Bool, true, false}
-use mathlib.Core.List.{List, [], _∷_, _++_}
+use mathlib.Core.List.{List, [], _∷_, _++_, map}
 use mathlib.Core.Option.{Option, some}
 use lib.Ieee.{Float}
 use lib.ListN.{length, replicate}
@@ -148,8 +148,7 @@ cases =
 
 -- the definitions give what is expected, row by row, whatever ratios stand for `any`
 unfoldable pub Hold : List Case → Type 0
-Hold [] = Unit {0}
-Hold (c ∷ cs) = ((smr : List (List Float)) → answerTo smr (c .asked) ≡ c .expected) × Hold cs
+Hold cs = (smr : List (List Float)) → map (λ c. answerTo smr (c .asked)) cs ≡ map (λ c. c .expected) cs
 
 -- what `count` promises
 pub record CasesHold (r : ℕ) : Type 0 where

@@ -1,6 +1,6 @@
 -- `worked_cases::count` meets its contract: antt computes the answers of the table, but for the one whose ratios decide nothing by a law.
 use mathlib.Core.Path.{_≡_, refl, ap₂}
-use mathlib.Core.List.{List}
+use mathlib.Core.List.{List, _∷_, _++_}
 use Prim.Native.Nat.{ℕ, _<_}
 use lib.Dec.{ltb, ltb→lt}
 use lib.Ieee.{Float, le, lt, sub}
@@ -49,16 +49,16 @@ filled smr =
 
 -- the cases before and behind it: antt computes the answers
 first-case : Hold (take 1 cases)
-unfolding cases Hold answerTo oneOf tableOf nbalOf rowOf sampleBits snrOf fieldsOf budgetOf frameSize filler allocationOf selection scalefactors pickOf le lt sub
-first-case = (λ smr. refl, tt)
+unfolding cases Hold answerTo oneOf tableOf nbalOf fieldsOf budgetOf
+first-case smr = refl
 
 other-cases : Hold (drop 2 cases)
 unfolding cases Hold answerTo ended oneOf tableOf nbalOf rowOf sampleBits snrOf fieldsOf budgetOf frameSize filler allocationOf selection scalefactors pickOf le lt sub
-other-cases = (λ smr. refl, (λ smr. refl, (λ smr. refl, (λ smr. refl, (λ smr. refl, (λ smr. refl, (λ smr. refl, (λ smr. refl, (λ smr. refl, (λ smr. refl, (λ smr. refl, (λ smr. refl, (λ smr. refl, (λ smr. refl, (λ smr. refl, (λ smr. refl, (λ smr. refl, (λ smr. refl, (λ smr. refl, (λ smr. refl, (λ smr. refl, (λ smr. refl, (λ smr. refl, tt)))))))))))))))))))))))
+other-cases smr = refl
 
 holds : Hold cases
 unfolding cases Hold
-holds = (first-case .0, (filled, other-cases))
+holds smr = ap₂ _++_ (first-case smr) (ap₂ _∷_ (filled smr) (other-cases smr))
 
 returns : tie.Need-returns
 unfolding cases
