@@ -19,6 +19,7 @@
  * Header. Seven arguments, the same in each function that has them:
  *   lsf             0, or 1 for the low sampling frequencies of ISO/IEC 13818-3
  *   bit_rate        in bit/s; 0 is free format, whose frame counts as 0 bytes (1 with padding), so that folgrist_allocate_bits answers 4
+ *                   wherever there is a table and the sample rate is not 0
  *   sample_rate     in Hz
  *   padding         0, or 1 for one more byte
  *   protection_bit  as on the wire: 0 where a CRC follows the header, 1 where none does

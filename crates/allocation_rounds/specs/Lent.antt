@@ -1,5 +1,5 @@
 -- The rules as tables that are lent: for each of up to 64 fields its top place, and sixteen ratios and sixteen charges, of the places 0 to 15
--- of field f at 16 * f. Whatever the tables hold, they are rules: a field past the 64th is not read, nor a place past the fifteenth.
+-- of field f at 16 * f. Whatever the tables hold, they are rules: a field past the 64th is not read, nor a place above 15.
 use Prim.Native.Nat.{ℕ, _+_, _*_, min}
 use mathlib.Core.List.{List}
 use lib.Ieee.{Float, nan}

@@ -1,5 +1,6 @@
 // Calls every function of the C library, its arguments by position, and prints the number of the answer and what is written. The
-// arguments are chosen so that two parameters of one type that change places in a signature change what is printed.
+// arguments are chosen so that two parameters of one type that change places in a signature change what is printed, wherever such a
+// change can change an answer.
 mod frames;
 mod indices;
 mod rows;

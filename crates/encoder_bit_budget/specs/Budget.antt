@@ -21,7 +21,7 @@ use Rattle.encoder_bit_budget.specs.declared.AvailableBits.{AvailableBit
 use Rattle.encoder_bit_budget.specs.declared.AvailableBits.the-variants as A
 use Rattle.encoder_bit_budget.specs.Layout.{boundIn, fieldsOf, sumOver}
 
--- ---- the questions that every entry with a header asks first
+-- ---- the questions that every entry with a budget asks first
 
 abbrev pub isSome : {A : Type 0} → Option A → Bool
 isSome none = false
@@ -127,7 +127,6 @@ pub record Bounded (b : FixedBitBudget) : Type 0 where
   pub fixed : fixedIn b ≤ 236
   pub sblimit : b .sblimit ≤ 30
   pub bound : b .bound ≤ b .sblimit
-  pub channels : b .channels ≤ 2
 
 pub record BudgetIs (h : FrameHeader) (r : Budget) : Type 0 where
   pub whole : budgetIn r ≡ budgetOf h

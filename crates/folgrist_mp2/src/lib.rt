@@ -1,4 +1,4 @@
-// The C library: each entry of the other crates as a function of numbers and slices, under the same definitions. The modules have the
+// The C library: the entries of the other crates as functions of numbers and slices, under the same definitions. The modules have the
 // exported functions by subject; `writing` fills slices.
 pub mod frame;
 pub mod samples;

@@ -1,7 +1,7 @@
 // The kinds of answers. For each kind a function calls the library with a line's arguments and compares what comes
-// back with the answers that the line has behind them. A new kind is its function, an arm of `replay`, and its name as
-// an arm of one of the functions that `print_name` calls. Tests are joined by `&` where the check of a branch would take
-// longer.
+// back with the answers that the line has behind them. A new kind is its function, an arm of `replay`, its name as an
+// arm of one of the functions that `print_name` calls, with the range there, and one more place in the counts of main.rt.
+// Tests are joined by `&` where the check of a branch would take longer.
 use crate::budget_kinds;
 use crate::sample_kinds;
 use crate::scalefactor_kinds;
