@@ -84,12 +84,19 @@ bound-small JointStereo extension sblimit = omega arith
 bound-small DualChannel extension sblimit = omega arith
 bound-small SingleChannel extension sblimit = omega arith
 
+channels-small : (m : Mode) → channelsOf m ≤ 2
+channels-small Stereo = lit≤ tt
+channels-small JointStereo = lit≤ tt
+channels-small DualChannel = lit≤ tt
+channels-small SingleChannel = lit≤ tt
+
 bounds : (h : FrameHeader) (t : BitAllocTable) → frameBytes h ≤ 536_870_911 → Bounded (budgetUnder h t)
 unfolding budgetUnder
 bounds h t l = record {
   fixed = omega (arith, crc-small (h .«protection_bit»), allocation-small h t);
   sblimit = sblimit-small t;
-  bound = bound-small (h .mode) (boundOf (h .«mode_extension»)) (sblimitOf t)
+  bound = bound-small (h .mode) (boundOf (h .«mode_extension»)) (sblimitOf t);
+  channels = channels-small (h .mode)
 }
 
 -- ---- the refusals

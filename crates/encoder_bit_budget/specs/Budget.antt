@@ -127,6 +127,7 @@ pub record Bounded (b : FixedBitBudget) : Type 0 where
   pub fixed : fixedIn b ≤ 236
   pub sblimit : b .sblimit ≤ 30
   pub bound : b .bound ≤ b .sblimit
+  pub channels : b .channels ≤ 2
 
 pub record BudgetIs (h : FrameHeader) (r : Budget) : Type 0 where
   pub whole : budgetIn r ≡ budgetOf h
