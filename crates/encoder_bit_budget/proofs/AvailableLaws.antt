@@ -10,8 +10,13 @@ use mir.Syntax.{w64}
 use mir.Val.{SFits, toZ, ofZ}
 use mir.Facts.{toZ-pos, toZ-ofZ}
 use borrow.Author.Tests.{le-leb, leb-true, leb-false, ltb-true, ltb-false}
-use Rattle.header.specs.declared.FrameHeader.{FrameHeader}
-use Rattle.encoder_bit_budget.specs.Budget.{BudgetAnswer, budgetOf, offeredIn, Available, availableOf}
+use Rattle.encoder_bit_budget.specs.declared.Request.{Request}
+use Rattle.encoder_bit_budget.specs.declared.FixedBitBudget.{FixedBitBudget}
+use Rattle.encoder_bit_budget.specs.declared.BitAllocError.{BitAllocError}
+use Rattle.encoder_bit_budget.specs.declared.BitAllocError.the-variants.{NoBitallocTable, ZeroSampleRate, FrameTooLarge}
+use Rattle.encoder_bit_budget.specs.declared.Budget.the-variants.{Ok, Refused}
+use Rattle.encoder_bit_budget.specs.Budget.{BudgetAnswer, errorNumber, budgetIn, budgetOf, cbOf, fixedIn, Available, availableOf, natural}
+use Rattle.encoder_bit_budget.proofs.BudgetLaws.{cb-is}
 
 -- ---- a difference below 0 too
 
@@ -43,12 +48,33 @@ module _ (a b : ℕ) (ha : a < 2 ^ 63) (hb : b < 2 ^ 63) where
   pub signed : toZ w64 (ofZ w64 (toZ w64 a -ℤ toZ w64 b)) ≡ minus a b
   signed = toZ-ofZ signed-fits ∙ read
 
+-- ---- the offered bits as a whole number
+
+pub natural-minus : (a b : ℕ) → natural (minus a b) ≡ a - b
+natural-minus a b = go (leb b a) refl
+  where
+    go : (l : Bool) → leb b a ≡ l → natural (cond l (pos (a - b)) (negsuc (b - suc a))) ≡ a - b
+    go true e = refl
+    go false e = let h = leb-false b a e in omega arith
+
 -- ---- the answers
 
 -- what the definition makes of the budget's answer
-abbrev availableBy : BudgetAnswer → ℕ → Available
-availableBy a banc = record { answer = a .answer; bits = cond (eqb (a .answer) 0) (offeredIn (a .budget) banc) (pos 0) }
+abbrev availableBy : Request → BudgetAnswer → Available
+availableBy q a = record { answer = a .answer; bits = cond (eqb (a .answer) 0) (minus (cbOf q) (fixedIn (a .budget) + q .banc)) (pos 0) }
 
-pub available-by : (h : FrameHeader) (banc : ℕ) (a : BudgetAnswer) (v : Available) → a ≡ budgetOf h → v ≡ availableBy a banc → v ≡ availableOf h banc
+pub available-refused : (q : Request) (e : BitAllocError) (v : Available) → budgetIn (Refused e) ≡ budgetOf q
+  → v ≡ record { answer = errorNumber e; bits = pos 0 } → v ≡ availableOf q
 unfolding availableOf
-available-by h banc a v e p = p ∙ ap (λ a. availableBy a banc) e
+available-refused q e v p r = r ∙ go e ∙ ap (availableBy q) p
+  where
+    go : (e : BitAllocError) → _≡_ {A = Available} (record { answer = errorNumber e; bits = pos 0 }) (availableBy q (budgetIn (Refused e)))
+    go NoBitallocTable = refl
+    go ZeroSampleRate = refl
+    go FrameTooLarge = refl
+
+pub available-accepted : (q : Request) (b : FixedBitBudget) (v : Available) (z : ℤ) → budgetIn (Ok b) ≡ budgetOf q
+  → v ≡ record { answer = 0; bits = z } → z ≡ minus (b .cb) (fixedIn b + q .banc) → v ≡ availableOf q
+unfolding availableOf
+available-accepted q b v z p r e =
+    r ∙ ap (λ (z : ℤ). record { answer = 0; bits = z }) (e ∙ ap (λ (c : ℕ). minus c (fixedIn b + q .banc)) (cb-is q b p)) ∙ ap (availableBy q) p

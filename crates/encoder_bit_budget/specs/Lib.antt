@@ -1,4 +1,3 @@
 pub mod Snr
-pub mod Layout
 pub mod Budget
 pub mod Demand

@@ -22,7 +22,7 @@ abbrev pub found : Option QuantClass → Bool
 found none = false
 found (some q) = true
 
-abbrev pub classAsked : ℕ → Question
+abbrev pub classAsked : ℕ → Question ℕ
 classAsked steps = record { yes = found (classOf steps); otherwise = 5 }
 
 -- ---- one sample

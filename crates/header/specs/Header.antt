@@ -48,7 +48,7 @@ sizeOf (Bytes n) = record { answer = 0; bytes = n }
 sizeOf ZeroSampleRate = record { answer = 2; bytes = 0 }
 
 -- question 2: the sample rate is not 0
-abbrev pub sampleRateAsked : FrameHeader → Question
+abbrev pub sampleRateAsked : FrameHeader → Question ℕ
 sampleRateAsked h = record { yes = not (eqb (h .«sample_rate») 0); otherwise = 2 }
 
 -- the bytes under a number: those of an accepted frame, and 0 of a refused one

@@ -49,8 +49,8 @@ counted g l sb = go (eqb (l .channels) 1) (ltb sb (l .bound))
     go false false = omega arith
 
 -- a subband has two at most
-pub few : (l : Layout) (sb : ℕ) → length (fieldsAt l sb) ≤ 2
-few l sb = go (eqb (l .channels) 1) (ltb sb (l .bound))
+pub two-at-most : (l : Layout) (sb : ℕ) → length (fieldsAt l sb) ≤ 2
+two-at-most l sb = go (eqb (l .channels) 1) (ltb sb (l .bound))
   where
     go : (one below : Bool) → length (cond one (own sb 0 ∷ []) (cond below (own sb 0 ∷ own sb 1 ∷ []) (shared sb ∷ []))) ≤ 2
     go true below = lit≤ tt
