@@ -4,7 +4,8 @@ use Rattle.tables.specs.Decimal.{decimal}
 use Rattle.encoder_samples.specs.Samples.{clamped}
 use Rattle.encoder_bit_budget.specs.Snr.{ratio, ratios, snrOf}
 use lib.Ieee.{mul, sub, neg, lt}
-use Rattle.text_line.specs.Line.{text, aligned}
+use Rattle.plan_text.specs.Quoted.{text}
+use Rattle.text_line.specs.Line.{aligned}
 use Rattle.text_line.specs.Number.{digitsOf}
 use Rattle.text_line.specs.Ratio.{hundredthsOf, ratioText}
 use Rattle.plan_page.specs.Rows.{headingLine, slotColumns}

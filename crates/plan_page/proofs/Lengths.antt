@@ -9,7 +9,8 @@ use lib.ListN.{length, getD, length-append}
 use Rattle.encoder_bit_budget.specs.declared.FixedBitBudget.{FixedBitBudget}
 use Rattle.encoder_bit_budget.specs.Demand.{smrAt}
 use Rattle.encoder_bit_allocator.specs.Entries.{slotRatio}
-use Rattle.text_line.specs.Line.{text, aligned}
+use Rattle.plan_text.specs.Quoted.{text}
+use Rattle.text_line.specs.Line.{aligned}
 use Rattle.text_line.specs.Number.{numberText}
 use Rattle.text_line.specs.Ratio.{ratioText}
 use Rattle.text_line.proofs.LineLaws.{column-length}

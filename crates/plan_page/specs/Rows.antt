@@ -9,7 +9,8 @@ use Rattle.encoder_bit_budget.specs.Demand.{smrAt}
 use Rattle.encoder_bit_allocator.specs.Entries.{slotRatio}
 use Rattle.encoder_bit_allocator.specs.Allocation.{fieldSteps}
 use Rattle.encoder_bit_allocator.specs.Numbering.{chargeBy}
-use Rattle.text_line.specs.Line.{text, aligned}
+use Rattle.plan_text.specs.Quoted.{text}
+use Rattle.text_line.specs.Line.{aligned}
 use Rattle.text_line.specs.Number.{numberText}
 use Rattle.text_line.specs.Ratio.{ratioText}
 

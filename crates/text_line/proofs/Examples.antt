@@ -5,7 +5,8 @@ use lib.Ieee.{nan, inf, fin, neg, mul, lt}
 use lib.IntN.{negsuc}
 use Rattle.tables.specs.Decimal.{decimal}
 use Rattle.encoder_samples.specs.Samples.{clamped}
-use Rattle.text_line.specs.Line.{text, aligned}
+use Rattle.plan_text.specs.Quoted.{text}
+use Rattle.text_line.specs.Line.{aligned}
 use Rattle.text_line.specs.Number.{digitsOf, numberText}
 use Rattle.text_line.specs.Ratio.{hundredthsOf, ratioText}
 

@@ -8,7 +8,7 @@ use lib.Dec.{T, ltb}
 use lib.Ieee.{Float, nan, inf, fin, binary64, lt, eq, div, ofBits}
 use lib.ListN.{length, length-append}
 use Rattle.ieee_order.specs.Order.{absOf}
-use Rattle.text_line.specs.Line.{text}
+use Rattle.plan_text.specs.Quoted.{text}
 use Rattle.text_line.specs.Number.{numberText}
 use Rattle.text_line.specs.Ratio.{minusText, hundredthsOf, hundredthsText, finiteText, ratioText}
 use Rattle.text_line.proofs.NumberLaws.{few-digits}

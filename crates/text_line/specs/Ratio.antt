@@ -6,7 +6,7 @@ use lib.Dec.{ltb}
 use lib.IntN.{pos}
 use lib.Ieee.{Float, nan, inf, fin, binary64, mul, lt}
 use Rattle.encoder_samples.specs.Samples.{clamped}
-use Rattle.text_line.specs.Line.{text}
+use Rattle.plan_text.specs.Quoted.{text}
 use Rattle.text_line.specs.Number.{numberText}
 
 -- the hundredths of a magnitude: 100 = 25 * 2 ^ 2 times it, in one rounding, and of that the nearest whole number, halves up, at most 2 ^ 32

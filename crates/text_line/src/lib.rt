@@ -6,7 +6,8 @@ ghost use mathlib.Core.List.{[], _++_};
 ghost use Prim.Native.Nat.{_+_, _-_, _≤_, min};
 ghost use lib.ListN.{length};
 ghost use lib.Seq.{paste};
-ghost use Rattle.text_line.specs.Line.{text, textOf, cut, spaces, aligned, EndedIs};
+ghost use Rattle.plan_text.specs.Quoted.{text};
+ghost use Rattle.text_line.specs.Line.{textOf, cut, spaces, aligned, EndedIs};
 ghost use Rattle.text_line.specs.Number.{numberText};
 ghost use Rattle.text_line.specs.Ratio.{minusText, hundredthsOf, hundredthsText, finiteText, ratioText};
 

@@ -1,6 +1,5 @@
 -- `plan_words::number_word` meets its contract.
 use mathlib.Core.Path.{sym, ap, _∙_}
-use Rattle.plan_text.specs.Quoted.{bytes, codes}
 use Rattle.plan_words.specs.Word.{numberWord, numberIn}
 use borrow.Author.Needs.{needs}
 use Rattle.plan_words.proofs.number_word.Statement.{statement}
@@ -16,7 +15,7 @@ enum-known-fs : tie.Need-enum-known-fs
 enum-known-fs c = search needs
 
 returns : tie.Need-returns
-unfolding numberWord bytes codes
+unfolding numberWord
 returns c = rw (sym (c .before .before .before .value-after .ensures) ∙ ap numberIn (c .before .fs .given .1))
 
 enum-told : tie.Need-enum-told
@@ -32,7 +31,7 @@ enum-known-rate : tie.Need-enum-known-rate
 enum-known-rate c = search needs
 
 returns-2 : tie.Need-returns-2
-unfolding numberWord bytes codes
+unfolding numberWord
 returns-2 c =
     let e1 = c .before .before .before .before .before in
     rw (
@@ -53,7 +52,7 @@ enum-known-ancillary : tie.Need-enum-known-ancillary
 enum-known-ancillary c = search needs
 
 returns-3 : tie.Need-returns-3
-unfolding numberWord bytes codes
+unfolding numberWord
 returns-3 c =
     let e2 = c .before .before .before .before .before in
     let e1 = e2 .before .before .before .before in
@@ -67,7 +66,7 @@ enum-told-3 : tie.Need-enum-told-3
 enum-told-3 c = search needs
 
 returns-4 : tie.Need-returns-4
-unfolding numberWord bytes codes
+unfolding numberWord
 returns-4 c =
     let e2 = c .before .before .before .before in
     let e1 = e2 .before .before .before .before in

@@ -2,7 +2,8 @@
 use mathlib.Core.Path.{ap, _∙_}
 use mathlib.Core.List.{_++_}
 use lib.Ieee.{Float}
-use Rattle.text_line.specs.Line.{text, textOf, cut, aligned}
+use Rattle.plan_text.specs.Quoted.{text}
+use Rattle.text_line.specs.Line.{textOf, cut, aligned}
 use Rattle.text_line.specs.Number.{numberText}
 use Rattle.text_line.specs.Ratio.{ratioText}
 use Rattle.text_line.proofs.LineLaws.{more}

@@ -4,7 +4,8 @@ use mathlib.Core.Bool.{true, false}
 use mathlib.Core.List.{List, _++_}
 use Prim.Native.Nat.{ℕ}
 use lib.Ieee.{Float, lt, eq}
-use Rattle.text_line.specs.Line.{text, textOf, cut}
+use Rattle.plan_text.specs.Quoted.{text}
+use Rattle.text_line.specs.Line.{textOf, cut}
 use Rattle.text_line.specs.Ratio.{minusText, hundredthsOf, finiteText}
 use Rattle.text_line.proofs.LineLaws.{more}
 use Rattle.text_line.proofs.RatioLaws.{nought, infinity, is-finite, is-infinite, is-nan}
