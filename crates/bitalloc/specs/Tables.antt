@@ -13,6 +13,17 @@ use Rattle.bitalloc.specs.declared.OptionU32.{OptionU32}
 use Rattle.bitalloc.specs.declared.OptionU32.the-variants.{Some}
 use Rattle.bitalloc.specs.Options.{numberIn}
 
+-- the tables in the order of their numbers, 0 to 4
+abbrev pub tableNumbered : ℕ → Option BitAllocTable
+tableNumbered number = getElem? (B2a ∷ B2b ∷ B2c ∷ B2d ∷ B1Lsf ∷ []) number
+
+abbrev pub tableNumber : BitAllocTable → ℕ
+tableNumber B2a = 0
+tableNumber B2b = 1
+tableNumber B2c = 2
+tableNumber B2d = 3
+tableNumber B1Lsf = 4
+
 -- What a table prints alike for a range of subbands: the bits of their allocation field, and the steps that its values 1, 2, .. stand for.
 -- The value 0, printed '-', stands for no allocation.
 pub record Range : Type 0 where
