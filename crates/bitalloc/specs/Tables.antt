@@ -88,13 +88,13 @@ unfolding rangeOf
 nbalOf t sb = widthIn (rangeOf t sb)
 
 -- A subband's row: the steps at each value of its allocation field. A place is an index into it. Outside the table there is no place.
-abbrev pub placesIn : Option Range → List ℕ
-placesIn none = []
-placesIn (some g) = 0 ∷ g .steps
+abbrev pub rowIn : Option Range → List ℕ
+rowIn none = []
+rowIn (some g) = 0 ∷ g .steps
 
 unfoldable pub rowOf : BitAllocTable → ℕ → List ℕ
 unfolding rangeOf
-rowOf t sb = placesIn (rangeOf t sb)
+rowOf t sb = rowIn (rangeOf t sb)
 
 -- the steps at a place of the row
 unfoldable pub stepsAt : BitAllocTable → ℕ → ℕ → Option ℕ
@@ -139,6 +139,6 @@ pub record StepsAre (t : BitAllocTable) (sb index : ℕ) (r : OptionU32) : Type 
   pub whole : numberIn r ≡ stepsAt t sb index
   pub below : (n : ℕ) → r ≡ Some n → (index < 16) × (n ≤ 65535)
 
-pub record IndexIs (t : BitAllocTable) (sb steps : ℕ) (r : OptionU32) : Type 0 where
+pub record AllocationIndexIs (t : BitAllocTable) (sb steps : ℕ) (r : OptionU32) : Type 0 where
   pub whole : numberIn r ≡ indexOf t sb steps
   pub below : (i : ℕ) → r ≡ Some i → i < 16

@@ -5,7 +5,7 @@ ghost use mathlib.Core.Bool.{cond};
 ghost use Prim.Native.Nat.{_≤_};
 ghost use lib.Dec.{ltb};
 ghost use lib.ListN.{length};
-ghost use Rattle.bitalloc.specs.Tables.{tableNumbered, tableNumber, sblimitOf, rowOf, NbalIs, StepsAre, IndexIs};
+ghost use Rattle.bitalloc.specs.Tables.{tableNumbered, tableNumber, sblimitOf, rowOf, NbalIs, StepsAre, AllocationIndexIs};
 ghost use Rattle.bitalloc.specs.Storage.{rowOf16};
 ghost use Rattle.bitalloc.specs.Options.{numberIn, tableIn};
 ghost use Rattle.bitalloc.specs.Select.{kbpsPerChannel, tableAt, tableOf, free, kbps};
@@ -109,7 +109,7 @@ impl BitAllocTable {
 
     // The place in the subband's row at which the steps stand.
     pub fn allocation_index(self, sb: usize, nb_steps: u32) -> OptionU32
-        ensures { λ r. ⌜ IndexIs self sb «nb_steps» r ⌝ }
+        ensures { λ r. ⌜ AllocationIndexIs self sb «nb_steps» r ⌝ }
     {
         let places = self.places(sb);
         let row = self.row(sb);

@@ -20,7 +20,7 @@ use Rattle.tables.specs.Listed.{tabulate}
 use Rattle.audio_data.specs.Scfsi.{codeOf}
 use Rattle.encoder_scalefactors.specs.Indices.{indexFrom, indicesOf}
 use Rattle.encoder_scfsi.specs.declared.ScfsiSelection.{ScfsiSelection}
-use Rattle.encoder_scfsi.specs.Class.{numberOf as classNumber}
+use Rattle.encoder_scfsi.specs.Class.{classNumber}
 use Rattle.encoder_scfsi.specs.Select.{selection, bit}
 use Rattle.encoder_samples.specs.declared.Triplet.{Triplet}
 use Rattle.encoder_samples.specs.Entries.{sampleCode, tripletAnswer}
