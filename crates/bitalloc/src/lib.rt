@@ -5,7 +5,7 @@ ghost use mathlib.Core.Bool.{cond};
 ghost use Prim.Native.Nat.{_≤_};
 ghost use lib.Dec.{ltb};
 ghost use lib.ListN.{length};
-ghost use Rattle.bitalloc.specs.Tables.{sblimitOf, rowOf, NbalIs, StepsAre, IndexIs};
+ghost use Rattle.bitalloc.specs.Tables.{tableNumbered, tableNumber, sblimitOf, rowOf, NbalIs, StepsAre, AllocationIndexIs};
 ghost use Rattle.bitalloc.specs.Storage.{rowOf16};
 ghost use Rattle.bitalloc.specs.Options.{numberIn, tableIn};
 ghost use Rattle.bitalloc.specs.Select.{kbpsPerChannel, tableAt, tableOf, free, kbps};
@@ -33,7 +33,40 @@ pub enum BitAllocTable {
     B1Lsf,
 }
 
+// A table, or nothing.
+pub enum OptionTable {
+    Some(BitAllocTable),
+    None,
+}
+
 impl BitAllocTable {
+    // The table of a number.
+    pub fn numbered(number: u64) -> OptionTable
+        ensures { λ r. ⌜ tableIn r ≡ tableNumbered number ⌝ }
+    {
+        match number {
+            0 => OptionTable::Some(BitAllocTable::B2a),
+            1 => OptionTable::Some(BitAllocTable::B2b),
+            2 => OptionTable::Some(BitAllocTable::B2c),
+            3 => OptionTable::Some(BitAllocTable::B2d),
+            4 => OptionTable::Some(BitAllocTable::B1Lsf),
+            _ => OptionTable::None,
+        }
+    }
+
+    // The table's number.
+    pub fn number(self) -> u32
+        ensures { λ r. ⌜ r ≡ tableNumber self ⌝ }
+    {
+        match self {
+            BitAllocTable::B2a => 0,
+            BitAllocTable::B2b => 1,
+            BitAllocTable::B2c => 2,
+            BitAllocTable::B2d => 3,
+            BitAllocTable::B1Lsf => 4,
+        }
+    }
+
     // How many subbands the table carries.
     pub fn sblimit(self) -> usize
         ensures { λ r. ⌜ (r ≡ sblimitOf self) × (r ≤ 30) ⌝ }
@@ -76,7 +109,7 @@ impl BitAllocTable {
 
     // The place in the subband's row at which the steps stand.
     pub fn allocation_index(self, sb: usize, nb_steps: u32) -> OptionU32
-        ensures { λ r. ⌜ IndexIs self sb «nb_steps» r ⌝ }
+        ensures { λ r. ⌜ AllocationIndexIs self sb «nb_steps» r ⌝ }
     {
         let places = self.places(sb);
         let row = self.row(sb);
@@ -125,12 +158,6 @@ fn nbal_by_range(sb: usize, four: usize, three: usize, two: usize) -> u32
     } else {
         0
     }
-}
-
-// A table, or nothing.
-pub enum OptionTable {
-    Some(BitAllocTable),
-    None,
 }
 
 // The table that the header selects.

@@ -17,6 +17,7 @@ use Rattle.header.specs.Header.{channelsOf, boundOf, frameBytes, sizeOf, frameS
 use Rattle.header.proofs.QuestionLaws.{said-yes, said-no, refusing}
 use Rattle.bitalloc.specs.declared.BitAllocTable.{BitAllocTable}
 use Rattle.bitalloc.specs.declared.BitAllocTable.the-variants.{B2a, B2b, B2c, B2d, B1Lsf}
+use Rattle.bitalloc.specs.Options.{isSome}
 use Rattle.bitalloc.specs.Tables.{nbalOf, sblimitOf, sumBelow}
 use Rattle.bitalloc.specs.Select.{tableOf}
 use Rattle.bitalloc.proofs.RowLaws.{sblimit-small}
@@ -30,7 +31,7 @@ use Rattle.encoder_bit_budget.specs.declared.BitAllocError.{BitAllocErro
 use Rattle.encoder_bit_budget.specs.declared.BitAllocError.the-variants.{NoBitallocTable, ZeroSampleRate, FrameTooLarge}
 use Rattle.encoder_bit_budget.specs.declared.Budget.{Budget}
 use Rattle.encoder_bit_budget.specs.declared.Budget.the-variants.{Ok, Refused}
-use Rattle.encoder_bit_budget.specs.Budget.{isSome, tableAsked, sizeAsked, headerAsked, errorNumber, cbOf, crcBits, allocationBits, budgetWith, budgetUnder, layoutIn, budgetIn, budgetOf, acceptedUnder, Bounded, BudgetIs}
+use Rattle.encoder_bit_budget.specs.Budget.{tableAsked, sizeAsked, headerAsked, errorNumber, cbOf, crcBits, allocationBits, budgetWith, budgetUnder, layoutIn, budgetIn, budgetOf, acceptedUnder, Bounded, BudgetIs}
 
 -- ---- what the frame's size tells
 

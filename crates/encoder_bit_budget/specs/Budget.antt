@@ -12,6 +12,7 @@ use Rattle.header.specs.Questions.{Question, number}
 use Rattle.header.specs.Header.{frameBytes, sampleRateAsked}
 use Rattle.bitalloc.specs.declared.BitAllocTable.{BitAllocTable}
 use Rattle.bitalloc.specs.declared.BitAllocTable.the-variants.{B2a}
+use Rattle.bitalloc.specs.Options.{isSome}
 use Rattle.bitalloc.specs.Tables.{nbalOf}
 use Rattle.bitalloc.specs.Select.{tableOf}
 use Rattle.layout.specs.declared.Layout.{Layout}
@@ -30,10 +31,6 @@ use Rattle.encoder_bit_budget.specs.declared.AvailableBits.the-variants 
 -- a header and the caller's ancillary bits
 abbrev pub plain : FrameHeader → ℕ → Request
 plain h banc = record { header = h; banc = banc }
-
-abbrev pub isSome : {A : Type 0} → Option A → Bool
-isSome none = false
-isSome (some x) = true
 
 -- question 1: a table is selected
 abbrev pub tableAsked : FrameHeader → Question ℕ

@@ -9,12 +9,13 @@ use lib.ListN.{length, getD, length-append}
 use Rattle.encoder_bit_budget.specs.declared.FixedBitBudget.{FixedBitBudget}
 use Rattle.encoder_bit_budget.specs.Demand.{smrAt}
 use Rattle.encoder_bit_allocator.specs.Entries.{slotRatio}
-use Rattle.text_line.specs.Line.{text, aligned}
+use Rattle.plan_text.specs.Quoted.{text}
+use Rattle.text_line.specs.Line.{aligned}
 use Rattle.text_line.specs.Number.{numberText}
-use Rattle.text_line.specs.Ratio.{ratioText}
+use Rattle.text_line.specs.Decibels.{decibelsText}
 use Rattle.text_line.proofs.LineLaws.{column-length}
 use Rattle.text_line.proofs.NumberLaws.{few-digits}
-use Rattle.text_line.proofs.RatioLaws.{short-ratio}
+use Rattle.text_line.proofs.DecibelsLaws.{short-decibels}
 use Rattle.plan_page.specs.Rows.{joined, headingLine, slotColumns, subbandBits, subbandLine}
 
 number : (n : ℕ) → length (numberText n) ≤ 20
@@ -23,8 +24,8 @@ number n = few-digits 20 n
 in-column : (width n : ℕ) → length (aligned width (numberText n)) ≤ width + 20
 in-column width n = omega (arith, column-length width (numberText n), number n)
 
-ratio-in-column : (width : ℕ) (x : Float) → length (aligned width (ratioText x)) ≤ width + 24
-ratio-in-column width x = omega (arith, column-length width (ratioText x), short-ratio x)
+decibels-in-column : (width : ℕ) (x : Float) → length (aligned width (decibelsText x)) ≤ width + 24
+decibels-in-column width x = omega (arith, column-length width (decibelsText x), short-decibels x)
 
 -- ---- the rows
 
@@ -39,7 +40,7 @@ heading-length channels = go (eqb channels 1)
 columns : (smr : Float) (steps : ℕ) → length (slotColumns smr steps) ≤ 97
 unfolding slotColumns
 columns smr steps =
-    simp length-append (omega (arith, ratio-in-column 10 smr, in-column 7 steps, ratio-in-column 10 (slotRatio steps smr)))
+    simp length-append (omega (arith, decibels-in-column 10 smr, in-column 7 steps, decibels-in-column 10 (slotRatio steps smr)))
 
 groups : (f : ℕ → List ℕ) → ((ch : ℕ) → length (f ch) ≤ 97) → (one : Bool) → length (joined f (cond one (0 ∷ []) (0 ∷ 1 ∷ []))) ≤ 194
 groups f h true = simp length-append (omega (arith, h 0))

@@ -14,7 +14,8 @@ use Rattle.encoder_bit_budget.specs.Layout.{sumOver}
 use Rattle.encoder_bit_budget.specs.Demand.{smrAt}
 use Rattle.encoder_bit_allocator.specs.Allocation.{fieldSteps}
 use Rattle.encoder_bit_allocator.specs.Numbering.{chargeBy}
-use Rattle.text_line.specs.Line.{text, cut, aligned}
+use Rattle.plan_text.specs.Quoted.{text}
+use Rattle.text_line.specs.Line.{cut, aligned}
 use Rattle.text_line.specs.Number.{numberText}
 use Rattle.text_line.proofs.LineLaws.{cut-whole}
 use Rattle.plan_page.specs.Rows.{headingLine, slotColumns, subbandBits, subbandLine}

@@ -13,7 +13,7 @@ use Rattle.encoder_bit_budget.specs.Budget.{budgetOf, fixedIn}
 use Rattle.encoder_bit_budget.specs.Demand.{demandOf}
 use Rattle.encoder_bit_allocator.specs.declared.Allocation.{Allocation}
 use Rattle.encoder_bit_allocator.specs.Allocation.{allocationOf}
-use Rattle.text_line.specs.Line.{text}
+use Rattle.plan_text.specs.Quoted.{text}
 use Rattle.plan_page.specs.Rows.{headingLine, subbandLine}
 use Rattle.plan_lines.specs.Lines.{frameLine, bitsLine, demandLine}
 use Rattle.plan_lines.specs.Refusal.{refusalLine}

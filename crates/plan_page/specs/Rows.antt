@@ -9,9 +9,10 @@ use Rattle.encoder_bit_budget.specs.Demand.{smrAt}
 use Rattle.encoder_bit_allocator.specs.Entries.{slotRatio}
 use Rattle.encoder_bit_allocator.specs.Allocation.{fieldSteps}
 use Rattle.encoder_bit_allocator.specs.Numbering.{chargeBy}
-use Rattle.text_line.specs.Line.{text, aligned}
+use Rattle.plan_text.specs.Quoted.{text}
+use Rattle.text_line.specs.Line.{aligned}
 use Rattle.text_line.specs.Number.{numberText}
-use Rattle.text_line.specs.Ratio.{ratioText}
+use Rattle.text_line.specs.Decibels.{decibelsText}
 
 -- the texts of a list's entries, one behind the other
 abbrev pub joined : (ℕ → List ℕ) → List ℕ → List ℕ
@@ -28,7 +29,7 @@ headingLine channels =
 -- a slot's signal-to-mask ratio, its steps, and the mask-to-noise ratio that they leave
 unfoldable pub slotColumns : Float → ℕ → List ℕ
 slotColumns smr steps =
-    aligned 10 (ratioText smr) ++ aligned 7 (numberText steps) ++ aligned 10 (ratioText (slotRatio steps smr)) ++ text " |"
+    aligned 10 (decibelsText smr) ++ aligned 7 (numberText steps) ++ aligned 10 (decibelsText (slotRatio steps smr)) ++ text " |"
 
 -- the bits charged for the fields of a subband; the steps are by slot, 32 * channel + subband
 unfoldable pub subbandBits : ℕ → ℕ → List ℕ → ℕ → ℕ

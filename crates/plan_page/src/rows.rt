@@ -5,7 +5,8 @@ ghost use mathlib.Core.Bool.{cond};
 ghost use Prim.Native.Nat.{_+_, _≤_, _<_};
 ghost use lib.Dec.{eqb};
 ghost use Rattle.bitalloc.specs.Classes.{sampleBits};
-ghost use Rattle.text_line.specs.Line.{text, textOf, cut};
+ghost use Rattle.plan_text.specs.Quoted.{text};
+ghost use Rattle.text_line.specs.Line.{textOf, cut};
 ghost use Rattle.plan_page.specs.Rows.{headingLine, slotColumns, subbandBits, subbandLine};
 use encoder_bit_budget::FixedBitBudget;
 use text_line::Line;
@@ -47,7 +48,7 @@ fn slot_columns(line: Line, smr: f64, nb_steps: u32) -> Line
     ensures { λ r. ⌜ textOf r ≡ cut (textOf line ++ slotColumns smr «nb_steps») ⌝ }
 {
     let left = encoder_bit_allocator::slot_ratio(nb_steps, smr);
-    line.ratio_in(10, smr).number_in(7, nb_steps as u64).ratio_in(10, left).text(b" |")
+    line.decibels_in(10, smr).number_in(7, nb_steps as u64).decibels_in(10, left).text(b" |")
 }
 
 // The bits charged for the fields of a subband.

@@ -10,11 +10,9 @@ use Rattle.header.specs.declared.Mode.the-variants.{Stereo, JointStereo, DualCh
 use Rattle.header.specs.declared.ModeExtension.the-variants.{Bound4, Bound8, Bound12, Bound16}
 use Rattle.plan_text.specs.Bytes.{same}
 use Rattle.plan_text.specs.Digits.{numberTo}
-use Rattle.plan_text.specs.Quoted.{bytes}
+use Rattle.plan_text.specs.Quoted.{text}
 use Rattle.plan_words.specs.declared.Setting.{Setting}
 use Rattle.plan_words.specs.declared.Setting.the-variants.{SampleRate, BitRate, Channels, Bound, Lsf, Padding, Crc, Ancillary, Unknown}
-use Rattle.plan_words.specs.declared.OptionU32.{OptionU32}
-use Rattle.plan_words.specs.declared.OptionU32.the-variants.{Some, None}
 
 -- ---- words that stand for themselves
 
@@ -55,7 +53,7 @@ flagWords =
 -- what the first entry of a table with that word sets, and `other` where there is none
 unfoldable pub lookup : List Named → Setting → List ℕ → Setting
 lookup [] other w = other
-lookup (n ∷ ns) other w = cond (same w (bytes (n .word))) (n .sets) (lookup ns other w)
+lookup (n ∷ ns) other w = cond (same w (text (n .word))) (n .sets) (lookup ns other w)
 
 -- ---- words with a number
 
@@ -74,17 +72,12 @@ whereRead f none other = other
 
 unfoldable pub numberWord : List ℕ → Setting
 numberWord w =
-    whereRead SampleRate (valueAfter (bytes "fs=") w)
-    (whereRead BitRate (valueAfter (bytes "rate=") w)
-    (whereRead Ancillary (valueAfter (bytes "ancillary=") w)
+    whereRead SampleRate (valueAfter (text "fs=") w)
+    (whereRead BitRate (valueAfter (text "rate=") w)
+    (whereRead Ancillary (valueAfter (text "ancillary=") w)
     Unknown))
 
 -- ---- any word
 
 unfoldable pub meaning : List ℕ → Setting
 meaning w = lookup (modeWords ++ boundWords ++ flagWords) (numberWord w) w
-
--- what each case of the enum stands for
-abbrev pub numberIn : OptionU32 → Option ℕ
-numberIn (Some n) = some n
-numberIn None = none

@@ -24,8 +24,8 @@ cast-t7 c =
     let h = k .before .before .before .before .pre _ (k .before .before .budget .given .1) in
     omega (arith, h .channels)
 
-number-of-requires : tie.Need-number-of-requires
-number-of-requires c κs = search needs
+number-requires : tie.Need-number-requires
+number-requires c κs = search needs
 
 enum-told : tie.Need-enum-told
 enum-told c = search needs
@@ -37,7 +37,7 @@ enum-told-3 : tie.Need-enum-told-3
 enum-told-3 c = search needs
 
 returns : tie.Need-returns
-returns c = rw (c .before .before .before .before .before .budget .given .1, c .number-of .ensures)
+returns c = rw (c .before .before .before .before .before .budget .given .1, c .number .ensures)
 
 returns-2 : tie.Need-returns-2
 returns-2 c = rw (c .enum-told .given .1)
@@ -56,7 +56,7 @@ budget-values-spec =
     cast-t5
     cast-t6
     cast-t7
-    number-of-requires
+    number-requires
     enum-told
     enum-told-2
     enum-told-3

@@ -1,20 +1,20 @@
--- `text_line::Line::ratio_in` meets its contract.
+-- `text_line::Line::decibels_in` meets its contract.
 use mathlib.Core.Path.{ap, _∙_}
 use mathlib.Core.List.{List, _++_}
 use Prim.Native.Nat.{ℕ}
 use native.Mathlib.Omega.{arith}
 use Rattle.text_line.specs.Line.{textOf, cut, aligned}
 use Rattle.text_line.proofs.LineLaws.{alone}
-use Rattle.text_line.proofs.RatioLaws.{short-ratio}
+use Rattle.text_line.proofs.DecibelsLaws.{short-decibels}
 use borrow.Author.Needs.{needs}
-use Rattle.text_line.proofs.Line.ratio_in.Statement.{statement}
-use Rattle.text_line.proofs.Line.ratio_in.Tie as tie
+use Rattle.text_line.proofs.Line.decibels_in.Statement.{statement}
+use Rattle.text_line.proofs.Line.decibels_in.Tie as tie
 
 new-requires : tie.Need-new-requires
 new-requires c κs = search needs
 
-ratio-requires : tie.Need-ratio-requires
-ratio-requires c κs = search needs
+decibels-requires : tie.Need-decibels-requires
+decibels-requires c κs = search needs
 
 aligned-requires : tie.Need-aligned-requires
 aligned-requires c κs = search needs
@@ -24,7 +24,7 @@ returns c =
     let s = c .before .before .before in
     c .aligned .ensures
     ∙ ap (λ (t : List ℕ). cut (textOf (s .args .self) ++ aligned (s .args .width) t))
-    (alone _ (c .before .before .new .ensures) (c .before .ratio .ensures) (let h = short-ratio (s .args .x) in omega arith))
+    (alone _ (c .before .before .new .ensures) (c .before .decibels .ensures) (let h = short-decibels (s .args .x) in omega arith))
 
-pub ratio-in-spec : {M : Type 1} → statement M
-ratio-in-spec = tie.close (tie.spec new-requires ratio-requires aligned-requires returns)
+pub decibels-in-spec : {M : Type 1} → statement M
+decibels-in-spec = tie.close (tie.spec new-requires decibels-requires aligned-requires returns)

@@ -1,4 +1,4 @@
--- A ratio in decibels, to the hundredth.
+-- A figure in decibels, to the hundredth.
 use Prim.Native.Nat.{ℕ, _+_, _/_, _%_, _^_}
 use mathlib.Core.Bool.{Bool, false, cond, _&&_}
 use mathlib.Core.List.{List, [], _∷_, _++_}
@@ -6,7 +6,7 @@ use lib.Dec.{ltb}
 use lib.IntN.{pos}
 use lib.Ieee.{Float, nan, inf, fin, binary64, mul, lt}
 use Rattle.encoder_samples.specs.Samples.{clamped}
-use Rattle.text_line.specs.Line.{text}
+use Rattle.plan_text.specs.Quoted.{text}
 use Rattle.text_line.specs.Number.{numberText}
 
 -- the hundredths of a magnitude: 100 = 25 * 2 ^ 2 times it, in one rounding, and of that the nearest whole number, halves up, at most 2 ^ 32
@@ -24,15 +24,15 @@ twoDigits n = (48 + n / 10) ∷ (48 + n % 10) ∷ []
 abbrev pub hundredthsText : ℕ → List ℕ
 hundredthsText h = numberText (h / 100) ++ text "." ++ twoDigits (h % 100)
 
--- a finite ratio, from whether it is below 0 and its hundredths: no minus sign before 0.00, and no digits from 100,000 dB on
+-- a finite figure, from whether it is below 0 and its hundredths: no minus sign before 0.00, and no digits from 100,000 dB on
 abbrev pub finiteText : Bool → ℕ → List ℕ
 finiteText below h =
     cond (ltb h 10_000_000)
     (minusText (below && ltb 0 h) ++ hundredthsText h)
     (cond below (text "<-99999") (text ">99999"))
 
-unfoldable pub ratioText : Float → List ℕ
+unfoldable pub decibelsText : Float → List ℕ
 unfolding hundredthsOf
-ratioText nan = text "nan"
-ratioText (inf s) = minusText s ++ text "inf"
-ratioText (fin s m e) = finiteText (lt (fin s m e) (fin false 0 (pos 0))) (hundredthsOf (fin false m e))
+decibelsText nan = text "nan"
+decibelsText (inf s) = minusText s ++ text "inf"
+decibelsText (fin s m e) = finiteText (lt (fin s m e) (fin false 0 (pos 0))) (hundredthsOf (fin false m e))

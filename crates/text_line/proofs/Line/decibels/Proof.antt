@@ -1,16 +1,17 @@
--- `text_line::Line::ratio` meets its contract.
+-- `text_line::Line::decibels` meets its contract.
 use mathlib.Core.Path.{_≡_, ap, sym, subst, _∙_}
 use mathlib.Core.Bool.{true, false}
 use mathlib.Core.List.{List, _++_}
 use Prim.Native.Nat.{ℕ}
 use lib.Ieee.{Float, lt, eq}
-use Rattle.text_line.specs.Line.{text, textOf, cut}
-use Rattle.text_line.specs.Ratio.{minusText, hundredthsOf, finiteText}
+use Rattle.plan_text.specs.Quoted.{text}
+use Rattle.text_line.specs.Line.{textOf, cut}
+use Rattle.text_line.specs.Decibels.{minusText, hundredthsOf, finiteText}
 use Rattle.text_line.proofs.LineLaws.{more}
-use Rattle.text_line.proofs.RatioLaws.{nought, infinity, is-finite, is-infinite, is-nan}
+use Rattle.text_line.proofs.DecibelsLaws.{nought, infinity, is-finite, is-infinite, is-nan}
 use borrow.Author.Needs.{needs}
-use Rattle.text_line.proofs.Line.ratio.Statement.{statement}
-use Rattle.text_line.proofs.Line.ratio.Tie as tie
+use Rattle.text_line.proofs.Line.decibels.Statement.{statement}
+use Rattle.text_line.proofs.Line.decibels.Tie as tie
 
 abs-requires : tie.Need-abs-requires
 abs-requires c κs = search needs
@@ -71,8 +72,8 @@ returns-3 c =
     (subst (λ (y : Float). lt y infinity ≡ false) (a .abs .ensures) (e .before .if1 .left))
     (subst (λ (y : Float). eq y infinity ≡ false) (a .abs .ensures) (e .if2 .left))))
 
-pub ratio-spec : {M : Type 1} → statement M
-ratio-spec =
+pub decibels-spec : {M : Type 1} → statement M
+decibels-spec =
     tie.close
     (tie.spec
     abs-requires
