@@ -18,7 +18,7 @@ abbrev μ-loop : tie.MeasureT-loop
 μ-loop text channels slots ratios₀ count₀ at₀ feeds₀ ratios count at feeds = length text - at
 
 few : (c : tie.At-loop Inv-loop μ-loop) → c .before .before .before .slots-of .result ≤ 64
-few c = c .before .before .before .slots-of .ensures .1
+few c = c .before .before .before .slots-of .ensures .most
 
 -- a token goes forward and ends within the text
 ahead : (c : tie.After-token-end Inv-loop μ-loop) → let l = c .before .before .before in
@@ -39,7 +39,7 @@ skip-gap-requires : tie.Need-skip-gap-requires Inv-loop μ-loop
 skip-gap-requires c κs = search needs
 
 loop-holds : tie.Need-loop-holds Inv-loop μ-loop
-loop-holds c = at-first _ _ _ _ _ (c .before .before .slots-of .ensures .0) (c .before .no-ratios .ensures) (c .skip-gap .ensures)
+loop-holds c = at-first _ _ _ _ _ (c .before .before .slots-of .ensures .whole) (c .before .no-ratios .ensures) (c .skip-gap .ensures)
 
 add-refused : tie.Need-add-refused Inv-loop μ-loop
 add-refused c = search needs
