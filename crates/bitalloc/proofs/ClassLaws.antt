@@ -20,7 +20,7 @@ use types.Run.{OneOf}
 use Rattle.bitalloc.specs.declared.QuantClass.{QuantClass}
 use Rattle.bitalloc.specs.declared.OptionClass.the-variants.{Some, None}
 use Rattle.bitalloc.specs.Options.{classIn}
-use Rattle.bitalloc.specs.Classes.{classes, classOf, ClassRule, ClassIs, SampleBitsAre, sampleBits, frameBits, grouped, groupingIn, bitsPerSample}
+use Rattle.bitalloc.specs.Classes.{classes, classOf, ClassRule, ClassIs, BitsPerSampleAre, SampleBitsAre, sampleBits, frameBits, grouped, groupingIn, bitsPerSample}
 
 -- the rule as one test
 ruled : QuantClass → Bool
@@ -164,14 +164,14 @@ half-reached n = go (size n) refl
     go (suc k) e = rw (pow-suc 2 k) (let l = size-reaches n k (rw e (lt-suc-self k)) in omega arith)
 
 -- the digits of a 32-bit number are those that are not leading zeros
-pub bits-counted : (steps : ℕ) → steps < 2 ^ 32 → (32 - leadingZeros 32 (steps - 1) ≡ bitsPerSample steps) × (32 - leadingZeros 32 (steps - 1) ≤ 32)
+pub bits-counted : (steps : ℕ) → steps < 2 ^ 32 → BitsPerSampleAre steps (32 - leadingZeros 32 (steps - 1))
 unfolding bitsPerSample
 bits-counted steps h =
     let n = steps - 1 in
     let l : size n ≤ 32 = size-le n 32 (omega arith) in
     let e : 32 - size n ≡ leadingZeros 32 n = leading-unique 32 n (32 - size n) (size n) (omega arith) (size-lt n) (half-reached n) in
-    (omega arith, omega arith)
+    record { whole = omega arith; most = omega arith }
 
-pub no-steps : (steps : ℕ) → steps ≡ 0 → 0 ≡ bitsPerSample steps
+pub no-steps : (steps : ℕ) → steps ≡ 0 → BitsPerSampleAre steps 0
 unfolding bitsPerSample
-no-steps steps e = rw e refl
+no-steps steps e = record { whole = rw e refl; most = lit≤ tt }

@@ -13,7 +13,8 @@ use lib.Pow.{pow-mono}
 use lib.Dec.{T, leb, ltb, eqb, ltb→lt, leb→le, eqb→eq, lit<, lit≤}
 use lib.ListN.{length, getD, replicate}
 use Rattle.tables.proofs.Listed.{tabulated}
-use Rattle.bitalloc.specs.Storage.{rowOf16, storedAB, storedCD, storedLsf}
+use Rattle.bitalloc.specs.Storage.{rowOf16}
+use Rattle.bitalloc.specs.Changes.{storedAB, storedCD, storedLsf, widthBy, WidthIs}
 use Rattle.tables.specs.Search.{entryAt}
 use Rattle.tables.proofs.Rule.{first, second, allBelow, below, all, all-at, ordered, ordered-at}
 use Rattle.tables.proofs.Search.{there, past, place-found, place-missing, at-place, none-passes}
@@ -250,9 +251,6 @@ index-missing t sb steps places row e p b = record {
 
 -- ---- nbal by the subbands at which it falls: below the first 4 bits, below the second 3, below sblimit 2
 
-abbrev pub widthBy : ℕ → ℕ → ℕ → ℕ → ℕ
-widthBy sb four three two = cond (ltb sb four) 4 (cond (ltb sb three) 3 (cond (ltb sb two) 2 0))
-
 abbrev pub four : BitAllocTable → ℕ
 four B2a = 11
 four B2b = 11
@@ -293,8 +291,8 @@ nbal-by-falls t sb = go (decLt sb (sblimitOf t))
         let b : three t ≤ sb = le-trans (leb→le _ _ (first (leb (three t) (sblimitOf t)) _ t₀)) l in
         rw (le-ltb sb (four t) a, le-ltb sb (three t) b, le-ltb sb (sblimitOf t) l) (sym (no-field t sb l))
 
-pub nbal-is : (s t : BitAllocTable) (sb r : ℕ) → s ≡ t → (r ≡ widthBy sb (four t) (three t) (sblimitOf t)) × (r ≤ 4) → NbalIs s sb r
-nbal-is s t sb r e p = record { whole = p .0 ∙ nbal-by-falls t sb ∙ ap (λ (t : BitAllocTable). nbalOf t sb) (sym e); small = p .1 }
+pub nbal-is : (s t : BitAllocTable) (sb r : ℕ) → s ≡ t → WidthIs sb (four t) (three t) (sblimitOf t) r → NbalIs s sb r
+nbal-is s t sb r e p = record { whole = p .whole ∙ nbal-by-falls t sb ∙ ap (λ (t : BitAllocTable). nbalOf t sb) (sym e); small = p .small }
 
 -- ---- the sums of nbal
 

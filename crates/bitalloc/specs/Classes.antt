@@ -91,6 +91,10 @@ pub record ClassIs (steps : ℕ) (r : OptionClass) : Type 0 where
   pub whole : classIn r ≡ classOf steps
   pub ruled : (q : QuantClass) → r ≡ Some q → (q .«nb_steps» ≡ steps) × ClassRule q
 
+pub record BitsPerSampleAre (steps r : ℕ) : Type 0 where
+  pub whole : r ≡ bitsPerSample steps
+  pub most : r ≤ 32
+
 pub record SampleBitsAre (steps r : ℕ) : Type 0 where
   pub whole : r ≡ sampleBits steps
   pub small : r ≤ 576

@@ -1,5 +1,6 @@
 pub mod Options
 pub mod Tables
 pub mod Storage
+pub mod Changes
 pub mod Select
 pub mod Classes

@@ -131,6 +131,14 @@ sumBelow (suc n) f = sumBelow n f + f n
 
 -- ---- what the functions promise
 
+pub record SblimitIs (t : BitAllocTable) (r : ℕ) : Type 0 where
+  pub whole : r ≡ sblimitOf t
+  pub most : r ≤ 30
+
+pub record PlacesAre (t : BitAllocTable) (sb r : ℕ) : Type 0 where
+  pub whole : r ≡ length (rowOf t sb)
+  pub most : r ≤ 16
+
 pub record NbalIs (t : BitAllocTable) (sb r : ℕ) : Type 0 where
   pub whole : r ≡ nbalOf t sb
   pub small : r ≤ 4

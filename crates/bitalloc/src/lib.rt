@@ -1,15 +1,12 @@
 // The bit allocation tables of Layer II, which table a header selects, and the classes of quantization: Tables 3-B.2a
 // to d and 3-B.4 of ISO/IEC 11172-3, Table B.1 of ISO/IEC 13818-3.
 ghost use mathlib.Core.Path.{_≡_};
-ghost use mathlib.Core.Bool.{cond};
-ghost use Prim.Native.Nat.{_≤_};
-ghost use lib.Dec.{ltb};
-ghost use lib.ListN.{length};
-ghost use Rattle.bitalloc.specs.Tables.{tableNumbered, tableNumber, sblimitOf, rowOf, NbalIs, StepsAre, AllocationIndexIs};
+ghost use Rattle.bitalloc.specs.Tables.{tableNumbered, tableNumber, SblimitIs, PlacesAre, NbalIs, StepsAre, AllocationIndexIs};
 ghost use Rattle.bitalloc.specs.Storage.{rowOf16};
+ghost use Rattle.bitalloc.specs.Changes.{WidthIs};
 ghost use Rattle.bitalloc.specs.Options.{numberIn, tableIn};
 ghost use Rattle.bitalloc.specs.Select.{kbpsPerChannel, tableAt, tableOf, free, kbps};
-ghost use Rattle.bitalloc.specs.Classes.{classes, bitsPerSample, grouped, ClassIs, SampleBitsAre};
+ghost use Rattle.bitalloc.specs.Classes.{classes, grouped, ClassIs, BitsPerSampleAre, SampleBitsAre};
 ghost use mathlib.Core.Option.{some};
 use header::FrameHeader;
 
@@ -69,7 +66,7 @@ impl BitAllocTable {
 
     // How many subbands the table carries.
     pub fn sblimit(self) -> usize
-        ensures { λ r. ⌜ (r ≡ sblimitOf self) × (r ≤ 30) ⌝ }
+        ensures { λ r. ⌜ SblimitIs self r ⌝ }
     {
         match self {
             BitAllocTable::B2a => 27,
@@ -138,7 +135,7 @@ impl BitAllocTable {
 
     // How many places the subband's row has.
     pub fn places(self, sb: usize) -> usize
-        ensures { λ r. ⌜ (r ≡ length (rowOf self sb)) × (r ≤ 16) ⌝ }
+        ensures { λ r. ⌜ PlacesAre self sb r ⌝ }
     {
         let nbal = self.nbal(sb);
         if nbal == 0 { 0 } else { 1 << nbal }
@@ -147,7 +144,7 @@ impl BitAllocTable {
 
 // 4 bits in the subbands below `four`, from there 3 below `three`, from there 2 below `two`, and 0 from there on.
 fn nbal_by_range(sb: usize, four: usize, three: usize, two: usize) -> u32
-    ensures { λ r. ⌜ (r ≡ cond (ltb sb four) 4 (cond (ltb sb three) 3 (cond (ltb sb two) 2 0))) × (r ≤ 4) ⌝ }
+    ensures { λ r. ⌜ WidthIs sb four three two r ⌝ }
 {
     if sb < four {
         4
@@ -241,7 +238,7 @@ pub struct QuantClass {
 impl QuantClass {
     // The bits that hold one of the class's steps, counted from 0.
     pub fn bits_per_sample(self) -> u32
-        ensures { λ r. ⌜ (r ≡ bitsPerSample (self .«nb_steps»)) × (r ≤ 32) ⌝ }
+        ensures { λ r. ⌜ BitsPerSampleAre (self .«nb_steps») r ⌝ }
     {
         let steps = self.nb_steps;
         if steps == 0 {

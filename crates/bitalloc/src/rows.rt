@@ -1,7 +1,7 @@
 // The rows of the five tables: sixteen numbers each, the steps at the places of a subband's row and zeros behind them. A row serves the
 // subbands for which its tables print it; `row` alone reads them.
 ghost use mathlib.Core.Path.{_≡_};
-ghost use Rattle.bitalloc.specs.Storage.{storedAB, storedCD, storedLsf};
+ghost use Rattle.bitalloc.specs.Changes.{storedAB, storedCD, storedLsf};
 
 // Tables 3-B.2a and 3-B.2b, subbands 0 to 2
 const AB_FROM_0: [u32; 16] = [0, 3, 7, 15, 31, 63, 127, 255, 511, 1023, 2047, 4095, 8191, 16383, 32767, 65535];

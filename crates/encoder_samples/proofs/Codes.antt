@@ -11,17 +11,21 @@ use lib.ListN.{getD}
 use lib.Ieee.{Float, nan, inf, fin}
 use lib.Ieee.Digits.{size-lt, size-le}
 use Rattle.bitalloc.specs.declared.QuantClass.{QuantClass}
-use Rattle.bitalloc.specs.Classes.{bitsPerSample, ClassRule}
+use Rattle.bitalloc.specs.Classes.{bitsPerSample, BitsPerSampleAre, ClassRule}
 use Rattle.encoder_samples.specs.declared.Triplet.{Triplet}
 use Rattle.encoder_samples.specs.Samples.{half, clamped, codeTo, lastCode, quantized}
+use Rattle.encoder_samples.specs.Half.{HalfIs}
 use Rattle.encoder_samples.specs.Samples.{combined, oneCodeword, threeCodewords, codewordsOf, triplet}
 
 -- ---- half of the codes
 
-pub half-range : (steps n : ℕ) → n ≡ bitsPerSample steps → n ≤ 32
-  → (2 ^ (n - 1) ≡ half steps) × (1 ≤ 2 ^ (n - 1)) × (2 ^ (n - 1) ≤ 2 ^ 31)
+pub half-range : (steps n : ℕ) → BitsPerSampleAre steps n → HalfIs steps (2 ^ (n - 1))
 unfolding half
-half-range steps n e h = (ap (λ (k : ℕ). 2 ^ (k - 1)) e, pow-pos (n - 1), pow-mono {i = n - 1} {j = 31} (omega arith))
+half-range steps n b = record {
+  whole = ap (λ (k : ℕ). 2 ^ (k - 1)) (b .whole);
+  least = pow-pos (n - 1);
+  most = pow-mono {i = n - 1} {j = 31} (omega arith)
+}
 
 -- ---- a code is at most the last one
 

@@ -1,7 +1,8 @@
 -- Sample codes of Layer II: ISO/IEC 11172-3 2.4.3.3.4, the decoder's s'' = C * (s''' + D) read backwards.
 -- s''' is a fraction of n bits, the first of weight -1: k / h with h = 2 ^ (n - 1) and a whole k from -h up. The code, s''' with its first
 -- bit inverted, is k + h.
-use Prim.Native.Nat.{ℕ, _+_, _-_, _*_, _/_, _%_, _^_, min}
+use Prim.Native.Nat.{ℕ, _+_, _-_, _*_, _/_, _%_, _^_, _≤_, min}
+use mathlib.Core.Path.{_≡_}
 use mathlib.Core.Bool.{cond}
 use mathlib.Core.List.{List, [], _∷_}
 use lib.IntN.{ℤ, pos}
@@ -64,3 +65,9 @@ codewordsOf q a b c =
 -- the codewords of three samples in a class
 unfoldable pub triplet : QuantClass → List Float → Triplet
 triplet q samples = codewordsOf q (quantized q (getD samples 0 nan)) (quantized q (getD samples 1 nan)) (quantized q (getD samples 2 nan))
+
+-- ---- what the functions promise
+
+pub record NearestIs (x : Float) (r : ℕ) : Type 0 where
+  pub whole : r ≡ clamped (2 ^ 32) 0 x
+  pub most : r ≤ 2 ^ 32

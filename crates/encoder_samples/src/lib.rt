@@ -1,9 +1,10 @@
 // Sample coding of Layer II: ISO/IEC 11172-3 2.4.3.3.4 read backwards, from a normalized sample to its code, and from
 // three consecutive samples to their codewords.
 ghost use mathlib.Core.Path.{_≡_};
-ghost use Prim.Native.Nat.{_+_, _-_, _*_, _%_, _^_, _≤_, min};
-ghost use Rattle.encoder_samples.specs.Samples.{half, clamped, codeTo, lastCode, quantized, combined, triplet};
+ghost use Prim.Native.Nat.{_+_, _-_, _*_, _%_, _^_, min};
+ghost use Rattle.encoder_samples.specs.Samples.{clamped, codeTo, lastCode, quantized, combined, triplet, NearestIs};
 ghost use Rattle.encoder_samples.specs.Entries.{SampleCodeIs, TripletIs};
+ghost use Rattle.encoder_samples.specs.Half.{HalfIs};
 use bitalloc::OptionClass;
 use bitalloc::QuantClass;
 
@@ -17,7 +18,7 @@ pub fn quantize_sample(class: QuantClass, s_double_prime: f64) -> u32
 
 // Half of the patterns of as many bits as a sample of the class has: 2^(n-1).
 fn half_range(class: QuantClass) -> u32
-    ensures { λ r. ⌜ (r ≡ half (class .«nb_steps»)) × (1 ≤ r) × (r ≤ 2 ^ 31) ⌝ }
+    ensures { λ r. ⌜ HalfIs (class .«nb_steps») r ⌝ }
 {
     let n = class.bits_per_sample();
     if n == 0 { 1 } else { 1 << (n - 1) }
@@ -69,7 +70,7 @@ fn clamp(last: u32, half: u32, value: f64) -> u32
 
 // The whole number nearest to `x`, halves up, at most 2^32; 0 where `x` is negative or NaN.
 pub fn nearest_whole(x: f64) -> u64
-    ensures { λ r. ⌜ (r ≡ clamped (2 ^ 32) 0 x) × (r ≤ 2 ^ 32) ⌝ }
+    ensures { λ r. ⌜ NearestIs x r ⌝ }
 {
     if x > 0.0 {
         if x < 4294967296.0 {

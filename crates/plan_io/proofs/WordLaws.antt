@@ -1,12 +1,11 @@
 -- Reading words one behind the other.
 use mathlib.Core.Path.{_≡_, refl, sym, ap, _∙_}
 use mathlib.Core.List.{List, [], _∷_, _++_, append-assoc}
-use Prim.Native.Nat.{ℕ, zero, suc, _+_, _-_, _≤_, _<_, min}
-use native.Mathlib.Numerals.{add-one}
+use Prim.Native.Nat.{ℕ, suc, _+_, _-_, _≤_, _<_}
 use native.Mathlib.Omega.{arith}
-use lib.ListN.{length, take, drop, set, length-append, length-take, length-drop, length-set}
-use lib.Seq.{take-add, take-suc-set, take-set-le, drop-set-add, take-at, drop-at, length-take-le}
-use Rattle.plan_io.specs.Words.{laid, Laid, WordRead, WordsRead}
+use lib.ListN.{length, take, drop, length-append, length-drop, length-set}
+use lib.Seq.{take-add, take-suc-set, take-set-le, drop-set-add}
+use Rattle.plan_io.specs.Words.{laid, Laid, WordEnded, WordRead, WordsRead}
 
 -- words behind words
 laid-behind : (a b : List (List ℕ)) → laid (a ++ b) ≡ laid a ++ laid b
@@ -68,12 +67,12 @@ not-there old new at h e k = record {
 
 -- a word of `size` bytes, whose byte 0 is put behind it where there is room
 pub word-there : (old mid new : List ℕ) (at size r : ℕ) → at ≤ length old → length mid ≡ length old → take at mid ≡ take at old
-    → r ≡ min (at + size + 1) (length mid) → new ≡ set mid (at + size) 0 → WordRead old new at r
-word-there old mid new at size r h e k er en = record {
+    → WordEnded mid new (at + size) r → WordRead old new at r
+word-there old mid new at size r h e k n = record {
   within = omega arith;
   onward = omega arith;
-  same = ap length en ∙ length-set mid (at + size) 0 ∙ e;
-  kept = ap (take at) en ∙ take-set-le at mid (at + size) 0 (omega arith) ∙ k;
+  same = ap length (n .put) ∙ length-set mid (at + size) 0 ∙ e;
+  kept = ap (take at) (n .put) ∙ take-set-le at mid (at + size) 0 (omega arith) ∙ k;
   word = λ less. record { words = take size (drop at mid) ∷ []; all = refl; each = written less };
 }
   where
@@ -86,6 +85,6 @@ word-there old mid new at size r h e k er en = record {
     written : r < length old → take (r - at) (drop at new) ≡ take size (drop at mid) ++ 0 ∷ []
     written less =
         ap (λ (n : ℕ). take n (drop at new)) (long less)
-        ∙ ap (λ (t : List ℕ). take (suc size) (drop at t)) en
+        ∙ ap (λ (t : List ℕ). take (suc size) (drop at t)) (n .put)
         ∙ ap (take (suc size)) (drop-set-add at mid size 0)
         ∙ take-suc-set (drop at mid) size 0 (room less)

@@ -1,10 +1,11 @@
 -- What reading leaves in a buffer. What the words and the input are no contract of the kit says: `os::arg` and `io::read_full` answer a count
 -- within the buffer, and `os::arg_count` and `os::errno` any number.
-use Prim.Native.Nat.{ℕ, _-_, _≤_, _<_}
+-- For the contracts of private functions alone: nothing that a caller has to believe stands here.
+use Prim.Native.Nat.{ℕ, _+_, _-_, _≤_, _<_, min}
 use mathlib.Core.Path.{_≡_}
 use mathlib.Core.Bool.{false}
 use mathlib.Core.List.{List, [], _∷_, _++_}
-use lib.ListN.{length, take, drop}
+use lib.ListN.{length, take, drop, set}
 use Rattle.planner.specs.Planner.{wantsRatios}
 
 -- words one behind the other, each ended by a byte 0
@@ -17,6 +18,11 @@ pub record Laid (count : ℕ) (bytes : List ℕ) : Type 0 where
   pub words : List (List ℕ)
   pub all : length words ≡ count
   pub each : bytes ≡ laid words
+
+-- the byte 0 put behind a word that ends at a place: `r` is the place behind it, or the buffer's end where there is no room
+pub record WordEnded (old new : List ℕ) (end r : ℕ) : Type 0 where
+  pub place : r ≡ min (end + 1) (length old)
+  pub put : new ≡ set old end 0
 
 -- one word read to a place: `r` is the place behind its byte 0, or the buffer's end where it does not fit
 pub record WordRead (old new : List ℕ) (at r : ℕ) : Type 0 where

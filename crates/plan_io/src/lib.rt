@@ -1,12 +1,12 @@
 // The planner's reading and writing: the words of the command line, the ratios from standard input, the answer to standard output.
 ghost use mathlib.Core.Path.{_≡_};
 ghost use mathlib.Core.List.{[]};
-ghost use Prim.Native.Nat.{_+_, _≤_, min};
+ghost use Prim.Native.Nat.{_≤_};
 ghost use lib.Dec.{ltb};
-ghost use lib.ListN.{length, getD, set};
+ghost use lib.ListN.{length, getD};
 ghost use Rattle.text_line.specs.Line.{fed};
 ghost use Rattle.planner.specs.Planner.{planOf};
-ghost use Rattle.plan_io.specs.Words.{WordRead, WordsRead, RatiosRead};
+ghost use Rattle.plan_io.specs.Words.{WordEnded, WordRead, WordsRead, RatiosRead};
 ghost use Rattle.plan_io.specs.Written.{linesOf, Written};
 
 // Reads, plans and writes, and answers how many lines the answer has.
@@ -59,7 +59,7 @@ fn read_word(i: usize, words: &mut [u8], at: usize) -> usize
 
 // Puts the byte 0 behind a word, and answers the place behind it; the buffer's end where there is no room.
 fn end_word(words: &mut [u8], end: usize) -> usize
-    ensures { λ r. ⌜ (r ≡ min (end + 1) (length (now (words .entry)))) × (now (words .exit) ≡ set (now (words .entry)) end 0) ⌝ }
+    ensures { λ r. ⌜ WordEnded (now (words .entry)) (now (words .exit)) end r ⌝ }
 {
     if end < words.len() {
         words[end] = 0;

@@ -2,7 +2,7 @@
 use mathlib.Core.Path.{_≡_, refl, sym, ap, _∙_, subst}
 use mathlib.Core.Bool.{Bool, true, false, cond, _||_}
 use mathlib.Core.List.{List, [], _∷_, _++_, map}
-use Prim.Native.Nat.{ℕ, suc, _+_, _-_, _≤_, _<_}
+use Prim.Native.Nat.{ℕ, suc, _+_, _-_, _<_}
 use native.Mathlib.Omega.{arith}
 use lib.Dec.{T}
 use native.Mathlib.Numerals.{add-one}
@@ -12,7 +12,7 @@ use borrow.Author.Tests.{eqb-true, eq-eqb, ne-eqb}
 use Rattle.plan_text.proofs.ByteLaws.{found-most}
 use Rattle.plan_text.specs.Bytes.{reach, before, onto, pieces}
 use Rattle.plan_ratios.specs.Tokens.{endsLine, isHash, isBlank, isEnd, filled, lineTokens, Token, onLine, numbered, tokensFrom}
-use Rattle.plan_ratios.specs.Walk.{gap}
+use Rattle.plan_ratios.specs.Walk.{gap, GapEndIs}
 
 neither : (a b : Bool) → a || b ≡ false → (a ≡ false) × (b ≡ false)
 neither true b e = absurd (subst T e tt)
@@ -202,13 +202,21 @@ module _ (text : List ℕ) (i : ℕ) (h : i < length text) where
   token-less e g f = let q = rw (drop-cons text i 0 h, g) at f in omega arith
 
   pub gap-hash : (r : ℕ) → getD text i 0 ≡ 35 → r ≡ i + 1 + reach endsLine (drop (i + 1) text)
-      → (r ≡ i + gap (drop i text)) × (i < r) × (r ≤ length text)
+      → GapEndIs text i r
   gap-hash r e f =
       let m = found-most endsLine text (i + 1) r (omega arith) f in
-      (rw (drop-cons text i 0 h, eq-eqb (getD text i 0) 35 e) (rw (add-one i) at (f ∙ after)), omega arith, m)
+      record {
+        whole = rw (drop-cons text i 0 h, eq-eqb (getD text i 0) 35 e) (rw (add-one i) at (f ∙ after));
+        forward = omega arith;
+        within = m
+      }
     where
       after : i + 1 + reach endsLine (drop (i + 1) text) ≡ i + suc (reach endsLine (drop (i + 1) text))
       after = omega arith
 
-  pub gap-other : (getD text i 0 ≡ 35 → ⊥) → (i + 1 ≡ i + gap (drop i text)) × (i < i + 1) × (i + 1 ≤ length text)
-  gap-other e = (rw (drop-cons text i 0 h, ne-eqb (getD text i 0) 35 e), omega arith, omega arith)
+  pub gap-other : (getD text i 0 ≡ 35 → ⊥) → GapEndIs text i (i + 1)
+  gap-other e = record {
+    whole = rw (drop-cons text i 0 h, ne-eqb (getD text i 0) 35 e);
+    forward = omega arith;
+    within = omega arith
+  }

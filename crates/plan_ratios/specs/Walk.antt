@@ -1,4 +1,5 @@
 -- What the walk over a text keeps: the tokens that are still to come.
+-- For the contracts of private functions alone: nothing that a caller has to believe stands here.
 use Prim.Native.Nat.{ℕ, suc, _+_, _≤_, _<_}
 use mathlib.Core.Path.{_≡_}
 use mathlib.Core.Bool.{false, cond}
@@ -7,11 +8,26 @@ use lib.ListN.{length, getD, drop}
 use Rattle.plan_text.specs.Bytes.{reach}
 use Rattle.plan_ratios.specs.declared.Gap.{Gap}
 use Rattle.plan_ratios.specs.Tokens.{endsLine, isHash, isEnd, tokensFrom}
+use Rattle.plan_ratios.specs.Ratios.{slotsOf}
 
 -- how far a gap goes: to the end of a comment's line, or over one byte
 abbrev pub gap : List ℕ → ℕ
 gap [] = 0
 gap (b ∷ bs) = cond (isHash b) (suc (reach endsLine bs)) 1
+
+-- what the steps of the walk find: how many slots there are, the line feeds in a byte, and where a gap that starts at a place ends
+pub record SlotsAre (channels r : ℕ) : Type 0 where
+  pub whole : r ≡ slotsOf channels
+  pub most : r ≤ 64
+
+pub record FeedsAre (byte r : ℕ) : Type 0 where
+  pub whole : r ≡ cond (endsLine byte) 1 0
+  pub most : r ≤ 1
+
+pub record GapEndIs (text : List ℕ) (at r : ℕ) : Type 0 where
+  pub whole : r ≡ at + gap (drop at text)
+  pub forward : at < r
+  pub within : r ≤ length text
 
 -- a place of a text and the line feeds before it
 pub record Reached (text : List ℕ) (at feeds : ℕ) : Type 0 where

@@ -5,12 +5,11 @@ ghost use mathlib.Core.Option.{Option·map};
 ghost use lib.Ieee.{neg};
 ghost use Rattle.tables.specs.Decimal.{decimal};
 ghost use Rattle.plan_ratios.specs.Ratio.{few, pointed, unsigned, signed, wordValue, ratioOf, readOf};
-ghost use mathlib.Core.Bool.{cond};
 ghost use lib.ListN.{length, drop};
 ghost use Rattle.plan_text.specs.Bytes.{reach, pieces};
 ghost use Rattle.plan_ratios.specs.Tokens.{endsLine, isEnd};
-ghost use Rattle.plan_ratios.specs.Ratios.{slotsOf, empty, refused, ratiosOf};
-ghost use Rattle.plan_ratios.specs.Walk.{gap, Skipped};
+ghost use Rattle.plan_ratios.specs.Ratios.{empty, refused, ratiosOf};
+ghost use Rattle.plan_ratios.specs.Walk.{SlotsAre, FeedsAre, GapEndIs, Skipped};
 use plan_text::OptionU64;
 
 // A ratio that may be missing.
@@ -197,7 +196,7 @@ pub fn read_ratios(text: &[u8], channels: usize) -> Ratios
 }
 
 fn slots_of(channels: usize) -> usize
-    ensures { λ r. ⌜ (r ≡ slotsOf channels) × (r ≤ 64) ⌝ }
+    ensures { λ r. ⌜ SlotsAre channels r ⌝ }
 {
     if channels == 1 { 32 } else { 64 }
 }
@@ -255,7 +254,7 @@ fn is_end(byte: u8) -> bool
 }
 
 fn feeds_of(byte: u8) -> u64
-    ensures { λ r. ⌜ (r ≡ cond (endsLine byte) 1 0) × (r ≤ 1) ⌝ }
+    ensures { λ r. ⌜ FeedsAre byte r ⌝ }
 {
     if byte == b'\n' { 1 } else { 0 }
 }
@@ -263,7 +262,7 @@ fn feeds_of(byte: u8) -> u64
 // Where a comment's line ends; past any other byte.
 fn gap_end(text: &[u8], at: usize) -> usize
     requires { ⌜ at < length (now text) ⌝ }
-    ensures { λ r. ⌜ (r ≡ at + gap (drop at (now (text .entry)))) × (at < r) × (r ≤ length (now (text .entry))) ⌝ }
+    ensures { λ r. ⌜ GapEndIs (now (text .entry)) at r ⌝ }
 {
     let next = at + 1;
     if text[at] == b'#' {

@@ -1,3 +1,4 @@
 pub mod Bytes
 pub mod Digits
+pub mod Worth
 pub mod Quoted

@@ -1,10 +1,11 @@
 // Reading texts of bytes: comparing, finding a byte, and numbers in decimal digits.
 ghost use mathlib.Core.Path.{_≡_};
-ghost use Prim.Native.Nat.{_+_, _-_, _≤_, min};
+ghost use Prim.Native.Nat.{_+_, _≤_, min};
 ghost use lib.ListN.{drop};
 ghost use lib.Dec.{eqb};
 ghost use Rattle.plan_text.specs.Bytes.{same, reach};
 ghost use Rattle.plan_text.specs.Digits.{digit, numberTo, optionOf};
+ghost use Rattle.plan_text.specs.Worth.{WorthIs};
 
 // A number that may be missing.
 pub enum OptionU64 {
@@ -74,7 +75,7 @@ pub fn read_digits(text: &[u8]) -> OptionU64
 // What a digit is worth.
 fn worth(byte: u8) -> u64
     requires { ⌜ (48 ≤ byte) × (byte ≤ 57) ⌝ }
-    ensures { λ r. ⌜ (r ≡ byte - 48) × (r ≤ 9) ⌝ }
+    ensures { λ r. ⌜ WorthIs byte r ⌝ }
 {
     (byte - 48) as u64
 }

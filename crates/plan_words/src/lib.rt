@@ -1,10 +1,11 @@
 // Reading the words of a command line: a frame header and the ancillary bits.
 ghost use mathlib.Core.Path.{_≡_};
 ghost use mathlib.Core.List.{_++_};
-ghost use Prim.Native.Nat.{_≤_, _<_};
+ghost use Prim.Native.Nat.{_<_};
 ghost use Rattle.plan_text.specs.Digits.{optionOf};
 ghost use Rattle.plan_words.specs.Word.{boundWords, flagWords, lookup, numberWord, meaning, number, valueAfter};
 ghost use Rattle.plan_words.specs.Line.{keyOf, headerWith, bancWith, withSetting, defaults, isGiven, refused, wordsOf, finished};
+ghost use Rattle.plan_words.specs.Key.{KeyIs};
 use header::FrameHeader;
 use header::Mode;
 use header::ModeExtension;
@@ -220,7 +221,7 @@ fn defaults() -> Settings
 
 // The number of a setting's key; 8 is no key.
 fn key_of(setting: Setting) -> usize
-    ensures { λ r. ⌜ (r ≡ keyOf setting) × (r ≤ 8) ⌝ }
+    ensures { λ r. ⌜ KeyIs setting r ⌝ }
 {
     match setting {
         Setting::SampleRate(_) => 0,

@@ -92,7 +92,7 @@ loop-again : tie.Need-loop-again Inv-loop μ-loop
 loop-again c =
     let at = c .before .before .before in
     let l = at .loop in
-    let h : l .p < 16 = (let t = c .before .before .loop-test .taken in let n = at .before .places .ensures .1 in omega arith) in
+    let h : l .p < 16 = (let t = c .before .before .loop-test .taken in let n = at .before .places .ensures .most in omega arith) in
     (
       search needs,
       (
@@ -114,7 +114,7 @@ returns c =
     let b : Begun (start .args .layout) (start .args .costs .now) (start .args .number) (field .field .result) _ _ =
         record { there = start .pre .0; is = field .field .ensures; cost = refl; read = row .row .ensures } in
     end (start .args .layout) _ _ _ _ _ _ b (l .mnrs) (l .charges) (l .p) (l .inv .1 .1 .1 (start .args .layout) b (start .pre .3))
-    (subst (λ (n : ℕ). n ≤ l .p) (places .places .ensures .0) (c .loop-test .left))
+    (subst (λ (n : ℕ). n ≤ l .p) (places .places .ensures .whole) (c .loop-test .left))
 
 pub lay-field-spec : {M : Type 1} → statement M
 lay-field-spec =

@@ -18,7 +18,7 @@ returns c =
     let fields = c .before in
     let crc = fields .before in
     let given = crc .before .args in
-    filled (given .cb) _ _ _ (given .layout) (given .protection-bit) (crc .crc-bits .ensures) (fields .allocation-bits .ensures) (c .sblimit .ensures .0)
+    filled (given .cb) _ _ _ (given .layout) (given .protection-bit) (crc .crc-bits .ensures) (fields .allocation-bits .ensures) (c .sblimit .ensures .whole)
 
 pub budget-with-spec : {M : Type 1} → statement M
 budget-with-spec =

@@ -14,7 +14,7 @@ places-requires c κs = search needs
 
 -- what was read
 read : (c : tie.After-places) → RowRead (c .before .before .args .table) (c .before .before .args .field .subband) (c .places .result) (c .before .row .result)
-read c = row-read _ _ _ _ (c .before .before .pre .0) (c .places .ensures .0) (c .before .row .ensures)
+read c = row-read _ _ _ _ (c .before .before .pre .0) (c .places .ensures .whole) (c .before .row .ensures)
 
 field-smr-requires : tie.Need-field-smr-requires
 field-smr-requires c κs = let start = c .before .before in (omega (arith, start .pre .0, sblimit-small (start .args .table)), start .pre .1)

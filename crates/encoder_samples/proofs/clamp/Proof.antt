@@ -28,19 +28,19 @@ returns : tie.Need-returns
 returns c =
     let b = c .before .before .before in
     c .least .ensures
-    ∙ sym (below-middle _ _ _ _ (b .before .fits .half .fits) (b .if1 .taken) (c .before .before .nearest-whole .ensures .0))
+    ∙ sym (below-middle _ _ _ _ (b .before .fits .half .fits) (b .if1 .taken) (c .before .before .nearest-whole .ensures .whole))
 
 returns-2 : tie.Need-returns-2
 returns-2 c =
     let b = c .before .before in
-    let e = below-middle (b .before .args .last) _ _ _ (b .before .fits .half .fits) (b .if1 .taken) (c .before .nearest-whole .ensures .0) in
+    let e = below-middle (b .before .args .last) _ _ _ (b .before .fits .half .fits) (b .if1 .taken) (c .before .nearest-whole .ensures .whole) in
     rw e (omega arith)
 
 returns-3 : tie.Need-returns-3
 returns-3 c =
     let b = c .before .before in
     c .least2 .ensures
-    ∙ sym (above-middle _ _ _ _ (b .before .fits .last .fits) (b .if1 .left) (c .before .nearest-whole2 .ensures .0))
+    ∙ sym (above-middle _ _ _ _ (b .before .fits .last .fits) (b .if1 .left) (c .before .nearest-whole2 .ensures .whole))
 
 pub clamp-spec : {M : Type 1} → statement M
 clamp-spec =

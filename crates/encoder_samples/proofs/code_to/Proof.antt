@@ -16,7 +16,7 @@ clamp-requires c κs = search needs
 
 returns : tie.Need-returns
 unfolding codeTo scaled
-returns c = c .clamp .ensures ∙ simp (c .before .before .before .before .half-range .ensures .0)
+returns c = c .clamp .ensures ∙ simp (c .before .before .before .before .half-range .ensures .whole)
 
 pub code-to-spec : {M : Type 1} → statement M
 code-to-spec = tie.close (tie.spec half-range-requires int-to-float-clamp clamp-requires returns)

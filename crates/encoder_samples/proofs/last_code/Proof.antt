@@ -25,7 +25,7 @@ returns-2 : tie.Need-returns-2
 unfolding lastCode
 returns-2 c =
     let h = c .before .half-range .ensures in
-    simp (c .if1 .left, ← h .0) (omega (arith, h .1))
+    simp (c .if1 .left, ← h .whole) (omega (arith, h .least))
 
 pub last-code-spec : {M : Type 1} → statement M
 last-code-spec =

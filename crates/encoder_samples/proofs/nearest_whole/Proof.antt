@@ -22,13 +22,13 @@ returns : tie.Need-returns
 returns c =
     let t = c .before in
     let n = near _ (held (t .before .before)) (t .before .if1 .taken) (t .if2 .taken) in
-    rw (c .truncating-f64-to-u64 .ensures) (n .whole, n .most)
+    rw (c .truncating-f64-to-u64 .ensures) (record { whole = n .whole; most = n .most })
 
 returns-2 : tie.Need-returns-2
-returns-2 c = (at-end _ (c .before .if1 .taken) (c .if2 .left), lit≤ tt)
+returns-2 c = record { whole = at-end _ (c .before .if1 .taken) (c .if2 .left); most = lit≤ tt }
 
 returns-3 : tie.Need-returns-3
-returns-3 c = (at-zero _ (c .if1 .left), lit≤ tt)
+returns-3 c = record { whole = at-zero _ (c .if1 .left); most = lit≤ tt }
 
 pub nearest-whole-spec : {M : Type 1} → statement M
 nearest-whole-spec =

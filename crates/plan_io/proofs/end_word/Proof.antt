@@ -19,7 +19,7 @@ returns : tie.Need-returns
 returns c = search needs
 
 returns-2 : tie.Need-returns-2
-returns-2 c = (omega arith, sym (set-out _ _ _ (c .if1 .left)))
+returns-2 c = record { place = omega arith; put = sym (set-out _ _ _ (c .if1 .left)) }
 
 pub end-word-spec : {M : Type 1} → statement M
 end-word-spec = tie.close (tie.spec slice-write-words add-result same-length returns returns-2)

@@ -53,7 +53,7 @@ returns-2 c =
     let part = a .arg .last .1 .0 in
     let mid = putMid at (length old - at) old part in
     let l : length mid ≡ length old = search needs in
-    word-there old mid _ at (a .arg .result) _ (s .pre) l (take-put at (length old - at) old part (s .pre)) (p .end-word .ensures .0) (p .end-word .ensures .1)
+    word-there old mid _ at (a .arg .result) _ (s .pre) l (take-put at (length old - at) old part (s .pre)) (p .end-word .ensures)
 
 pub read-word-spec : {M : Type 1} → statement M
 read-word-spec =

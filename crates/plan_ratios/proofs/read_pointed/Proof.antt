@@ -11,12 +11,22 @@ use Rattle.plan_ratios.proofs.DecimalLaws.{pointed-unfew, front-unread,
 use Rattle.plan_ratios.proofs.read_pointed.Statement.{statement}
 use Rattle.plan_ratios.proofs.read_pointed.Tie as tie
 
+-- the places that the needs look back to: the start, the first part read, and told, and the second part read
+abbrev at-start : tie.Then1 → tie.Start
+at-start c = c .before .before .before .before
+
+abbrev at-first : tie.After-known-told → tie.After-read-digits
+at-first told = told .before .before .before
+
+abbrev at-second : tie.After-known-told2 → tie.After-read-digits2
+at-second told = told .before .before .before
+
 -- the counts are right
-counted : (c : tie.Then1) → let a = c .before .before .before .before .args in few (length (a .front .now) + length (a .back .now)) ≡ true
+counted : (c : tie.Then1) → let args = at-start c .args in few (length (args .front .now) + length (args .back .now)) ≡ true
 counted c = sym (c .before .are-few .ensures) ∙ c .if1 .taken
 
 -- the first part is read
-front-read : (c : tie.After-known-told) → optionOf (c .before .before .before .read-digits .result) ≡ some (c .before .first .given .0 .0)
+front-read : (c : tie.After-known-told) → optionOf (at-first c .read-digits .result) ≡ some (c .before .first .given .0 .0)
 front-read c = ap optionOf (c .before .first .given .1)
 
 are-few-requires : tie.Need-are-few-requires
@@ -33,8 +43,8 @@ enum-told c = search needs
 
 returns : tie.Need-returns
 returns c =
-    let d = c .before .before in
-    sym (front-unread _ _ (counted (d .before)) (sym (d .read-digits .ensures) ∙ ap optionOf (c .enum-told .given .1)))
+    let first = c .before .before in
+    sym (front-unread _ _ (counted (first .before)) (sym (first .read-digits .ensures) ∙ ap optionOf (c .enum-told .given .1)))
 
 read-digits-requires-2 : tie.Need-read-digits-requires-2
 read-digits-requires-2 c κs = search needs
@@ -47,34 +57,35 @@ enum-told-2 c = search needs
 
 returns-2 : tie.Need-returns-2
 returns-2 c =
-    let k = c .before .before .before in
-    let d = k .before .before .before in
+    let second = c .before .before in
+    let told = second .before in
+    let first = at-first told in
     sym
-    (back-unread _ _ (counted (d .before)) _
-    (sym (d .read-digits .ensures) ∙ front-read k)
-    (sym (c .before .before .read-digits2 .ensures) ∙ ap optionOf (c .enum-told2 .given .1)))
+    (back-unread _ _ (counted (first .before)) _
+    (sym (first .read-digits .ensures) ∙ front-read told)
+    (sym (second .read-digits2 .ensures) ∙ ap optionOf (c .enum-told2 .given .1)))
 
 nearest-decimal-requires : tie.Need-nearest-decimal-requires
 nearest-decimal-requires c κs =
-    let e = c .before .before .before in
-    let k = e .before in
-    let d = k .before .before .before in
-    let a = d .before .before .before .before .before .args in
-    parts-less (a .front .now) (a .back .now) (counted (d .before)) _
-    (sym (d .read-digits .ensures) ∙ front-read k) _
-    (sym (e .read-digits2 .ensures) ∙ ap optionOf (c .before .second .given .1))
+    let second = at-second c in
+    let told = second .before in
+    let first = at-first told in
+    let args = at-start (first .before) .args in
+    parts-less (args .front .now) (args .back .now) (counted (first .before)) _
+    (sym (first .read-digits .ensures) ∙ front-read told) _
+    (sym (second .read-digits2 .ensures) ∙ ap optionOf (c .before .second .given .1))
 
 returns-3 : tie.Need-returns-3
 returns-3 c =
-    let e = c .before .before .before .before in
-    let k = e .before in
-    let d = k .before .before .before in
-    let a = d .before .before .before .before .before .args in
+    let second = at-second (c .before) in
+    let told = second .before in
+    let first = at-first told in
+    let args = at-start (first .before) .args in
     ap some (c .nearest-decimal .ensures)
     ∙ sym
-    (parts-read (a .front .now) (a .back .now) (counted (d .before)) _
-    (sym (d .read-digits .ensures) ∙ front-read k) _
-    (sym (e .read-digits2 .ensures) ∙ ap optionOf (c .before .before .second .given .1)))
+    (parts-read (args .front .now) (args .back .now) (counted (first .before)) _
+    (sym (first .read-digits .ensures) ∙ front-read told) _
+    (sym (second .read-digits2 .ensures) ∙ ap optionOf (c .before .before .second .given .1)))
 
 returns-4 : tie.Need-returns-4
 returns-4 c = sym (pointed-unfew _ _ (sym (c .before .are-few .ensures) ∙ c .if1 .left))

@@ -17,17 +17,31 @@ Inv-loop text channels slots ratios₀ count₀ at₀ feeds₀ ratios count at f
 abbrev μ-loop : tie.MeasureT-loop
 μ-loop text channels slots ratios₀ count₀ at₀ feeds₀ ratios count at feeds = length text - at
 
+-- the places that the needs look back to: the start, the loop's head, the token's end, the ratio read
+abbrev at-start : tie.At-loop Inv-loop μ-loop → tie.Start Inv-loop μ-loop
+at-start head = head .before .before .before .before .before
+
+abbrev at-head : tie.After-token-end Inv-loop μ-loop → tie.At-loop Inv-loop μ-loop
+at-head token = token .before .before .before
+
+abbrev at-token : tie.After-read-ratio Inv-loop μ-loop → tie.After-token-end Inv-loop μ-loop
+at-token ratio = ratio .before .before
+
+abbrev at-ratio : tie.After-known-told Inv-loop μ-loop → tie.After-read-ratio Inv-loop μ-loop
+at-ratio told = told .before .before .before
+
 few : (c : tie.At-loop Inv-loop μ-loop) → c .before .before .before .slots-of .result ≤ 64
-few c = c .before .before .before .slots-of .ensures .1
+few c = c .before .before .before .slots-of .ensures .most
 
 -- a token goes forward and ends within the text
-ahead : (c : tie.After-token-end Inv-loop μ-loop) → let l = c .before .before .before in
-    (l .loop .at < c .token-end .result) × (c .token-end .result ≤ length (l .before .before .before .before .before .args .text .now))
+ahead : (c : tie.After-token-end Inv-loop μ-loop) → let head = at-head c in
+    (head .loop .at < c .token-end .result) × (c .token-end .result ≤ length (at-start head .args .text .now))
 ahead c =
-    let l = c .before .before .before in
-    let h = c .before .before .loop-test .taken in
-    let e = c .token-end .ensures in
-    (forward _ _ _ (few l) _ _ _ _ (l .loop .inv) _ h e, within _ _ _ (few l) _ _ _ _ (l .loop .inv) _ h e)
+    let head = at-head c in
+    let inv = head .loop .inv in
+    let tested = c .before .before .loop-test .taken in
+    let ends = c .token-end .ensures in
+    (forward _ _ _ (few head) _ _ _ _ inv _ tested ends, within _ _ _ (few head) _ _ _ _ inv _ tested ends)
 
 slots-of-requires : tie.Need-slots-of-requires Inv-loop μ-loop
 slots-of-requires c κs = search needs
@@ -39,7 +53,7 @@ skip-gap-requires : tie.Need-skip-gap-requires Inv-loop μ-loop
 skip-gap-requires c κs = search needs
 
 loop-holds : tie.Need-loop-holds Inv-loop μ-loop
-loop-holds c = at-first _ _ _ _ _ (c .before .before .slots-of .ensures .0) (c .before .no-ratios .ensures) (c .skip-gap .ensures)
+loop-holds c = at-first _ _ _ _ _ (c .before .before .slots-of .ensures .whole) (c .before .no-ratios .ensures) (c .skip-gap .ensures)
 
 add-refused : tie.Need-add-refused Inv-loop μ-loop
 add-refused c = search needs
@@ -49,9 +63,9 @@ refused-requires c κs = search needs
 
 returns : tie.Need-returns Inv-loop μ-loop
 returns c =
-    let l = c .before .before .before in
+    let head = c .before .before .before in
     c .refused .ensures
-    ∙ sym (at-many _ _ _ (few l) _ _ _ _ (l .loop .inv) _ (c .before .before .loop-test .taken) refl (c .before .if1 .taken))
+    ∙ sym (at-many _ _ _ (few head) _ _ _ _ (head .loop .inv) _ (c .before .before .loop-test .taken) refl (c .before .if1 .taken))
 
 token-end-requires : tie.Need-token-end-requires Inv-loop μ-loop
 token-end-requires c κs = search needs
@@ -82,13 +96,13 @@ refused-requires-2 c κs = search needs
 
 returns-2 : tie.Need-returns-2 Inv-loop μ-loop
 returns-2 c =
-    let t = c .before .before .before .before .before in
-    let l = t .before .before .before in
-    let r = c .before .before .before .read-ratio .ensures in
+    let ratio = c .before .before .before in
+    let token = at-token ratio in
+    let head = at-head token in
     c .refused2 .ensures
     ∙ sym
-    (at-unread _ _ _ (few l) _ _ _ _ (l .loop .inv) _ (t .before .before .loop-test .taken) (t .token-end .ensures) (t .before .if1 .left)
-    (sym r ∙ ap readOf (c .before .enum-told .given .1)))
+    (at-unread _ _ _ (few head) _ _ _ _ (head .loop .inv) _ (token .before .before .loop-test .taken) (token .token-end .ensures)
+    (token .before .if1 .left) (sym (ratio .read-ratio .ensures) ∙ ap readOf (c .before .enum-told .given .1)))
 
 mul-ratios : tie.Need-mul-ratios Inv-loop μ-loop
 mul-ratios c = search needs
@@ -101,21 +115,19 @@ add-count c = search needs
 
 skip-gap-requires-2 : tie.Need-skip-gap-requires-2 Inv-loop μ-loop
 skip-gap-requires-2 c κs =
-    let t = c .before .before .before .before .before in
-    (ahead t .1, omega (arith, ahead t .0, t .before .before .before .loop .inv .reached .counted))
+    let token = at-token (at-ratio c) in
+    (ahead token .1, omega (arith, ahead token .0, at-head token .loop .inv .reached .counted))
 
 loop-less : tie.Need-loop-less Inv-loop μ-loop
-loop-less c =
-    let t = c .before .before .before .before .before .before in
-    omega (arith, ahead t, c .skip-gap2 .ensures .forward)
+loop-less c = omega (arith, ahead (at-token (at-ratio (c .before))), c .skip-gap2 .ensures .forward)
 
 loop-again : tie.Need-loop-again Inv-loop μ-loop
 loop-again c =
-    let r = c .before .before .before .before in
-    let t = r .before .before in
-    let l = t .before .before .before in
-    at-read _ _ _ (few l) _ _ _ _ (l .loop .inv) _ (t .before .before .loop-test .taken) (t .token-end .ensures) (t .before .if1 .left) _ _
-    (sym (r .read-ratio .ensures) ∙ ap readOf (c .before .before .read .given .1)) (c .skip-gap2 .ensures)
+    let ratio = at-ratio (c .before) in
+    let token = at-token ratio in
+    let head = at-head token in
+    at-read _ _ _ (few head) _ _ _ _ (head .loop .inv) _ (token .before .before .loop-test .taken) (token .token-end .ensures)
+    (token .before .if1 .left) _ _ (sym (ratio .read-ratio .ensures) ∙ ap readOf (c .before .before .read .given .1)) (c .skip-gap2 .ensures)
 
 count-lines-requires : tie.Need-count-lines-requires Inv-loop μ-loop
 count-lines-requires c κs = search needs
@@ -125,15 +137,15 @@ refused-requires-3 c κs = search needs
 
 returns-3 : tie.Need-returns-3 Inv-loop μ-loop
 returns-3 c =
-    let l = c .before .before .before .before in
+    let head = c .before .before .before .before in
     c .refused3 .ensures
-    ∙ ap (λ (n : ℕ). refused TooFew n (l .loop .count)) (c .before .count-lines .ensures)
-    ∙ sym (at-few _ _ _ (few l) _ _ _ _ (l .loop .inv) (c .before .before .before .loop-test .left) (c .before .before .if2 .taken))
+    ∙ ap (λ (n : ℕ). refused TooFew n (head .loop .count)) (c .before .count-lines .ensures)
+    ∙ sym (at-few _ _ _ (few head) _ _ _ _ (head .loop .inv) (c .before .before .before .loop-test .left) (c .before .before .if2 .taken))
 
 returns-4 : tie.Need-returns-4 Inv-loop μ-loop
 returns-4 c =
-    let l = c .before .before in
-    sym (at-enough _ _ _ (few l) _ _ _ _ (l .loop .inv) (c .before .loop-test .left) (c .if2 .left))
+    let head = c .before .before in
+    sym (at-enough _ _ _ (few head) _ _ _ _ (head .loop .inv) (c .before .loop-test .left) (c .if2 .left))
 
 pub read-ratios-spec : {M : Type 1} → statement M
 read-ratios-spec =

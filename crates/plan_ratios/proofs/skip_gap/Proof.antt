@@ -48,8 +48,8 @@ loop-again c =
     let l = e .before .before .before in
     let i = l .loop .inv in
     let k =
-    gap-at _ _ (e .before .before .loop-test .taken) (l .loop .feeds) _ _ (sym (e .is-end .ensures) ∙ c .before .before .if1 .taken) (f .0) (g .0) in
-    (omega (arith, i, g .1), g .2, omega (arith, i, f, g .1), i .3 ∙ k)
+    gap-at _ _ (e .before .before .loop-test .taken) (l .loop .feeds) _ _ (sym (e .is-end .ensures) ∙ c .before .before .if1 .taken) (f .whole) (g .whole) in
+    (omega (arith, i, g .forward), g .within, omega (arith, i, f, g .forward), i .3 ∙ k)
 
 returns : tie.Need-returns Inv-loop μ-loop
 returns c =

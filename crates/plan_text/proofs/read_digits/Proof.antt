@@ -42,7 +42,7 @@ returns c =
     sym
     (l .loop .inv .1
     ∙ next-digit most _ _ (l .loop .i) (t .before .before .before .loop-test .taken) (sym (t .before .is-digit .ensures) ∙ t .if1 .taken)
-    ∙ from-over most _ _ (subst (λ (w : ℕ). most < l .loop .number * 10 + w) (c .before .worth .ensures .0) (c .if2 .taken)))
+    ∙ from-over most _ _ (subst (λ (w : ℕ). most < l .loop .number * 10 + w) (c .before .worth .ensures .whole) (c .if2 .taken)))
 
 returns-2 : tie.Need-returns-2 Inv-loop μ-loop
 returns-2 c =
@@ -62,7 +62,7 @@ loop-again c =
     let t = c .before .before in
     let l = t .before .before .before .before in (
       search needs,
-      rw (c .before .worth .ensures .0)
+      rw (c .before .worth .ensures .whole)
           (l .loop .inv .1
           ∙ next-digit most _ _ (l .loop .i) (t .before .before .before .loop-test .taken) (sym (t .before .is-digit .ensures) ∙ t .if1 .taken)),
     )

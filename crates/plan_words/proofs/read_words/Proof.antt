@@ -55,7 +55,7 @@ returns c =
     let l = b .before .before in
     c .refused .ensures
     ∙ sym
-    (at-unknown _ _ _ _ (b .before .loop-test .taken) (b .find-byte .ensures) (l .loop .inv) _ (w .read-word .ensures) _ (k .key-of .ensures .0)
+    (at-unknown _ _ _ _ (b .before .loop-test .taken) (b .find-byte .ensures) (l .loop .inv) _ (w .read-word .ensures) _ (k .key-of .ensures .whole)
     (c .before .if1 .taken))
 
 is-given-requires : tie.Need-is-given-requires Inv-loop μ-loop
@@ -73,7 +73,7 @@ returns-2 c =
     let l = b .before .before in
     c .refused2 .ensures
     ∙ sym
-    (at-twice _ _ _ _ (b .before .loop-test .taken) (b .find-byte .ensures) (l .loop .inv) _ (w .read-word .ensures) _ (k .key-of .ensures .0)
+    (at-twice _ _ _ _ (b .before .loop-test .taken) (b .find-byte .ensures) (l .loop .inv) _ (w .read-word .ensures) _ (k .key-of .ensures .whole)
     (g .before .if1 .left) (sym (g .is-given .ensures) ∙ c .before .if2 .taken))
 
 with-setting-requires : tie.Need-with-setting-requires Inv-loop μ-loop
@@ -96,7 +96,7 @@ loop-again c =
     let w = k .before in
     let b = w .before .before in
     let l = b .before .before in
-    at-once _ _ _ _ (b .before .loop-test .taken) (b .find-byte .ensures) (l .loop .inv) _ (w .read-word .ensures) _ (k .key-of .ensures .0)
+    at-once _ _ _ _ (b .before .loop-test .taken) (b .find-byte .ensures) (l .loop .inv) _ (w .read-word .ensures) _ (k .key-of .ensures .whole)
     (g .before .if1 .left) _ _ (c .past .ensures) (c .before .with-setting .ensures) (sym (g .is-given .ensures) ∙ c .before .before .if2 .left)
 
 finished-requires : tie.Need-finished-requires Inv-loop μ-loop

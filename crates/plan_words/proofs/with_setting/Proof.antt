@@ -18,7 +18,7 @@ array-write-given c = search needs
 
 returns : tie.Need-returns
 unfolding withSetting
-returns c = rw (c .before .before .header-with .ensures, c .before .banc-with .ensures, c .before .before .before .key-of .ensures .0)
+returns c = rw (c .before .before .header-with .ensures, c .before .banc-with .ensures, c .before .before .before .key-of .ensures .whole)
 
 pub with-setting-spec : {M : Type 1} → statement M
 with-setting-spec =

@@ -10,7 +10,7 @@ nearest-whole-requires c κs = search needs
 
 returns : tie.Need-returns
 unfolding hundredthsOf ofBits
-returns c = c .nearest-whole .ensures .0
+returns c = c .nearest-whole .ensures .whole
 
 pub hundredths-spec : {M : Type 1} → statement M
 hundredths-spec = tie.close (tie.spec nearest-whole-requires returns)

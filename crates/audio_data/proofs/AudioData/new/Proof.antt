@@ -9,7 +9,7 @@ sblimit-requires c κs = search needs
 
 returns : tie.Need-returns
 unfolding fresh
-returns c = rw (c .sblimit .ensures .0)
+returns c = rw (c .sblimit .ensures .whole)
 
 pub new-spec : {M : Type 1} → statement M
 new-spec = tie.close (tie.spec sblimit-requires returns)

@@ -35,7 +35,7 @@ cast-t13 c = search needs
 
 returns : tie.Need-returns Inv-loop μ-loop
 returns c =
-    index-found _ _ _ _ _ _ (c .before .before .before .row .ensures) (c .before .before .before .before .places .ensures .0)
+    index-found _ _ _ _ _ _ (c .before .before .before .row .ensures) (c .before .before .before .before .places .ensures .whole)
     (c .before .loop-test .taken) (c .before .before .loop .inv .1) (c .if1 .taken)
 
 add-at : tie.Need-add-at Inv-loop μ-loop
@@ -49,7 +49,7 @@ loop-again c = (search needs, below-more _ _ (c .before .before .loop .inv .1) (
 
 returns-2 : tie.Need-returns-2 Inv-loop μ-loop
 returns-2 c =
-    index-missing _ _ _ _ _ (c .before .before .row .ensures) (c .before .before .before .places .ensures .0)
+    index-missing _ _ _ _ _ (c .before .before .row .ensures) (c .before .before .before .places .ensures .whole)
     (λ k l. c .before .loop .inv .1 k (omega arith))
 
 pub allocation-index-spec : {M : Type 1} → statement M

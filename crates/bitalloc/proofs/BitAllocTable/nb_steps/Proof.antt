@@ -17,10 +17,10 @@ array-read-t13 : tie.Need-array-read-t13
 array-read-t13 c = search needs
 
 returns : tie.Need-returns
-returns c = steps-there _ _ _ _ _ (c .row .ensures) (c .before .before .places .ensures .0) (c .before .if1 .taken)
+returns c = steps-there _ _ _ _ _ (c .row .ensures) (c .before .before .places .ensures .whole) (c .before .if1 .taken)
 
 returns-2 : tie.Need-returns-2
-returns-2 c = steps-past _ _ _ _ (c .before .places .ensures .0) (c .if1 .left)
+returns-2 c = steps-past _ _ _ _ (c .before .places .ensures .whole) (c .if1 .left)
 
 pub nb-steps-spec : {M : Type 1} → statement M
 nb-steps-spec = tie.close (tie.spec places-requires row-requires mul-t10 array-read-t13 returns returns-2)

@@ -16,13 +16,13 @@ shl-result : tie.Need-shl-result
 shl-result c = search needs
 
 returns : tie.Need-returns
-returns c = (no-places _ _ _ (c .before .nbal .ensures) (c .if1 .taken), search needs)
+returns c = record { whole = no-places _ _ _ (c .before .nbal .ensures) (c .if1 .taken); most = search needs }
 
 returns-2 : tie.Need-returns-2
 returns-2 c =
     let a = c .before .before .args in
     let e = some-places (a .self) (a .sb) _ (c .before .nbal .ensures) (c .if1 .left) in
-    (e, subst (λ (n : ℕ). n ≤ 16) (sym e) (places-small (a .self) (a .sb)))
+    record { whole = e; most = subst (λ (n : ℕ). n ≤ 16) (sym e) (places-small (a .self) (a .sb)) }
 
 pub places-spec : {M : Type 1} → statement M
 places-spec = tie.close (tie.spec nbal-requires cast-result shl-result returns returns-2)

@@ -6,7 +6,7 @@ use Rattle.bitalloc.proofs.QuantClass.bits_per_sample.Statement.{statem
 use Rattle.bitalloc.proofs.QuantClass.bits_per_sample.Tie as tie
 
 returns : tie.Need-returns
-returns c = (no-steps _ (c .if1 .taken), search needs)
+returns c = no-steps _ (c .if1 .taken)
 
 sub-result : tie.Need-sub-result
 sub-result c = search needs

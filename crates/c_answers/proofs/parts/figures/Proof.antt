@@ -20,7 +20,7 @@ enum-told c = search needs
 returns : tie.Need-returns
 returns c =
     let f = c .before .before .before in
-    rw (f .found .given .1) (figures-listed (f .found .given .0 .0) _ (c .bits-per-sample .ensures .0))
+    rw (f .found .given .1) (figures-listed (f .found .given .0 .0) _ (c .bits-per-sample .ensures .whole))
 
 returns-2 : tie.Need-returns-2
 unfolding bitsPerSample

@@ -12,7 +12,7 @@ sblimit-requires : tie.Need-sblimit-requires
 sblimit-requires c κs = search needs
 
 returns : tie.Need-returns
-returns c = past-limit _ _ _ (rw (c .before .sblimit .ensures .0) at (c .if1 .taken))
+returns c = past-limit _ _ _ (rw (c .before .sblimit .ensures .whole) at (c .if1 .taken))
 
 cast-t8 : tie.Need-cast-t8
 cast-t8 c = search needs
@@ -24,7 +24,7 @@ returns-2 c =
     let below = one .before .before in
     let limit = below .before .sblimit .ensures in
     let e = eq-eqb _ _ (one .if2 .taken) in
-    serving-is _ _ _ _ (rw e (c .if3 .taken, rw (limit .0) at (below .if1 .left))) (rw e) (omega arith)
+    serving-is _ _ _ _ (rw e (c .if3 .taken, rw (limit .whole) at (below .if1 .left))) (rw e) (omega arith)
 
 returns-3 : tie.Need-returns-3
 unfolding Outside
@@ -57,7 +57,7 @@ returns-5 c =
     let below = two .before .before in
     let limit = below .before .sblimit .ensures in
     let e = ne-eqb _ _ (two .if2 .left) in
-    serving-is _ _ _ _ (rw e (few .if4 .left, rw (limit .0) at (below .if1 .left))) (rw (e, lt-ltb _ _ (c .if5 .taken))) (omega arith)
+    serving-is _ _ _ _ (rw e (few .if4 .left, rw (limit .whole) at (below .if1 .left))) (rw (e, lt-ltb _ _ (c .if5 .taken))) (omega arith)
 
 returns-6 : tie.Need-returns-6
 unfolding Carried
@@ -68,7 +68,7 @@ returns-6 c =
     let below = two .before .before in
     let limit = below .before .sblimit .ensures in
     let e = ne-eqb _ _ (two .if2 .left) in
-    serving-is _ _ _ _ (rw e (few .if4 .left, rw (limit .0) at (below .if1 .left))) (rw (e, le-ltb _ _ (shared .if5 .left))) (omega arith)
+    serving-is _ _ _ _ (rw e (few .if4 .left, rw (limit .whole) at (below .if1 .left))) (rw (e, le-ltb _ _ (shared .if5 .left))) (omega arith)
 
 pub field-serving-spec : {M : Type 1} → statement M
 field-serving-spec =

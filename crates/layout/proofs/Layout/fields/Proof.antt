@@ -16,18 +16,18 @@ mul-result : tie.Need-mul-result
 mul-result c = search needs
 
 returns : tie.Need-returns
-returns c = let limit = c .before .before .sblimit .ensures .0 in fields-are _ _ (rw (eq-eqb _ _ (c .if1 .taken)) limit)
+returns c = let limit = c .before .before .sblimit .ensures .whole in fields-are _ _ (rw (eq-eqb _ _ (c .if1 .taken)) limit)
 
 returns-2 : tie.Need-returns-2
 returns-2 c =
     let one = c .before .before .before in
-    let limit = one .before .before .sblimit .ensures .0 in
+    let limit = one .before .before .sblimit .ensures .whole in
     fields-are _ _ (rw (ne-eqb _ _ (one .if1 .left)) (omega arith))
 
 returns-3 : tie.Need-returns-3
 returns-3 c =
     let one = c .before .before in
-    let limit = one .before .before .sblimit .ensures .0 in
+    let limit = one .before .before .sblimit .ensures .whole in
     fields-are _ _ (rw (ne-eqb _ _ (one .if1 .left)) (omega arith))
 
 pub fields-spec : {M : Type 1} → statement M

@@ -17,7 +17,7 @@ channels-requires c κs = search needs
 returns : tie.Need-returns
 returns c =
     let shared = c .before in
-    laid-out _ _ _ _ (shared .shared-from .ensures) (c .channels .ensures) (shared .before .sblimit .ensures .0)
+    laid-out _ _ _ _ (shared .shared-from .ensures) (c .channels .ensures) (shared .before .sblimit .ensures .whole)
 
 pub of-header-spec : {M : Type 1} → statement M
 of-header-spec =

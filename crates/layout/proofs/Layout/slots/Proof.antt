@@ -16,12 +16,12 @@ mul-result c = search needs
 returns : tie.Need-returns
 returns c =
     let limit = c .before .before .sblimit .ensures in
-    slots-are _ _ (rw (eq-eqb _ _ (c .if1 .taken)) (limit .0)) (omega arith)
+    slots-are _ _ (rw (eq-eqb _ _ (c .if1 .taken)) (limit .whole)) (omega arith)
 
 returns-2 : tie.Need-returns-2
 returns-2 c =
     let limit = c .before .before .sblimit .ensures in
-    slots-are _ _ (rw (ne-eqb _ _ (c .if1 .left)) (let e = limit .0 in omega arith)) (omega arith)
+    slots-are _ _ (rw (ne-eqb _ _ (c .if1 .left)) (let e = limit .whole in omega arith)) (omega arith)
 
 pub slots-spec : {M : Type 1} → statement M
 slots-spec = tie.close (tie.spec sblimit-requires mul-result returns returns-2)
