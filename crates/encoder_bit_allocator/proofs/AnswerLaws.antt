@@ -103,6 +103,27 @@ module _ (q : Request) (smr : List (List Float)) where
   unfolding allocationOf
   answered n e = ap answer (sym e)
 
+  -- the record's number is the answer's, and where it is 0 the budget was accepted
+  number-is : allocationOf q smr .number ≡ number (allocationAsked q)
+  unfolding allocationOf accepted
+  number-is = go (number (allocationAsked q)) (eqb (number (allocationAsked q)) 0) (eqb (number (allocationAsked q)) 4) refl refl
+    where
+      go : (n : ℕ) (a b : Bool) → eqb n 0 ≡ a → eqb n 4 ≡ b
+        → cond a (accepted (layoutFor q) smr (worstCase (layoutFor q)) (natural (offeredOf q))) (cond b (insufficient q) (refused n)) .number ≡ n
+      go n true b z f = sym (eqb-true n 0 z)
+      go n false true z f = sym (eqb-true n 4 f)
+      go n false false z f = refl
+
+  pub accepted-budget : allocationOf q smr .number ≡ 0 → budgetIn (Ok (budgetOf q .budget)) ≡ budgetOf q
+  accepted-budget z = λ i. record { answer = sym (answer-is q ∙ header-zero (sym number-is ∙ z)) i; budget = budgetOf q .budget }
+    where
+      header-zero : number (allocationAsked q) ≡ 0 → number (headerAsked (q .header)) ≡ 0
+      header-zero e = go (eqb (number (headerAsked (q .header))) 0) refl
+        where
+          go : (b : Bool) → eqb (number (headerAsked (q .header))) 0 ≡ b → number (headerAsked (q .header)) ≡ 0
+          go true p = eqb-true (number (headerAsked (q .header))) 0 p
+          go false p = sym (else-header q p) ∙ e
+
   free-number : freeFormat (q .header) ≡ true → number (headerAsked (q .header)) ≡ 0 → allocationOf q smr .number ≡ 4
   free-number free z = ap (λ (a : Allocation). a .number) (sym (answered 4 (short q z (free-short q free z))))
 

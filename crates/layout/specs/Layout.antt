@@ -42,6 +42,10 @@ layoutOf h t = record {
 abbrev pub limitOf : Layout → ℕ
 limitOf l = sblimitOf (l .table)
 
+-- how many channels it has: any number but 1 counts as 2
+abbrev pub channelCount : Layout → ℕ
+channelCount l = cond (eqb (l .channels) 1) 1 2
+
 -- ---- the list of fields
 
 -- a channel's own field, and one that serves both channels
@@ -55,7 +59,7 @@ shared sb = record { subband = sb; channel = 0; both = true }
 abbrev pub served : AllocationField → List ℕ
 served x = cond (x .both) (0 ∷ 1 ∷ []) (x .channel ∷ [])
 
--- a subband's fields; any number of channels but 1 counts as 2
+-- a subband's fields
 abbrev pub fieldsAt : Layout → ℕ → List AllocationField
 fieldsAt l sb =
     cond (eqb (l .channels) 1) (own sb 0 ∷ [])
@@ -105,6 +109,10 @@ pub record LayoutIs (h : FrameHeader) (t : BitAllocTable) (r : Layout) : Type 0 
   pub whole : r ≡ layoutOf h t
   pub bound : r .bound ≤ sblimitOf t
   pub channels : r .channels ≤ 2
+
+pub record ChannelCountIs (l : Layout) (r : ℕ) : Type 0 where
+  pub whole : r ≡ channelCount l
+  pub most : r ≤ 2
 
 pub record FieldsAre (l : Layout) (r : ℕ) : Type 0 where
   pub whole : r ≡ length (fieldsOf l)

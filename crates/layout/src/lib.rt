@@ -1,7 +1,7 @@
 // The layout of a frame's side information (ISO/IEC 11172-3 2.4.1.6): its allocation fields and its slots, in the order of the bitstream.
 ghost use mathlib.Core.Path.{_≡_};
 ghost use Rattle.header.specs.Header.{boundOf};
-ghost use Rattle.layout.specs.Layout.{own, sharedFrom, LayoutIs, FieldsAre, FieldIs, ServedBy, SlotsAre, SlotIs};
+ghost use Rattle.layout.specs.Layout.{own, sharedFrom, LayoutIs, ChannelCountIs, FieldsAre, FieldIs, ServedBy, SlotsAre, SlotIs};
 use bitalloc::{BitAllocTable, OptionU32};
 use header::{FrameHeader, Mode};
 
@@ -35,6 +35,13 @@ impl Layout {
             bound,
             channels,
         }
+    }
+
+    // How many channels there are.
+    pub fn channel_count(self) -> usize
+        ensures { λ r. ⌜ ChannelCountIs self r ⌝ }
+    {
+        if self.channels == 1 { 1 } else { 2 }
     }
 
     // How many fields there are.
