@@ -25,7 +25,9 @@ returns-5 c = rw (c .match .keys5)
 returns-6 : tie.Need-returns-6
 returns-6 c =
     let m = c .match .rest in
-    sym (past (B2a ∷ B2b ∷ B2c ∷ B2d ∷ B1Lsf ∷ []) (c .before .args .number) (omega (arith, m .0 .0 .0 .0 .1, m .0 .0 .0 .1, m .0 .0 .1, m .0 .1, m .1)))
+    sym
+    (past (B2a ∷ B2b ∷ B2c ∷ B2d ∷ B1Lsf ∷ []) (c .before .args .number)
+    (omega (arith, m .0 .0 .0 .0 .1, m .0 .0 .0 .1, m .0 .0 .1, m .0 .1, m .1)))
 
 pub numbered-spec : {M : Type 1} → statement M
 numbered-spec =
