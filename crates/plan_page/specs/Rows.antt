@@ -23,16 +23,22 @@ joined f zero = []
 joined f (suc n) = joined f n ++ f n
 
 -- a group of columns for each channel
+abbrev pub columnHeads : List ℕ
+columnHeads = text "     ratio  steps      left |"
+
 unfoldable pub headingLine : ℕ → List ℕ
-headingLine channels = text "subband |" ++ joined (λ ch. text "     ratio  steps      left |") channels ++ text "  bits"
+headingLine channels = text "subband |" ++ joined (λ ch. columnHeads) channels ++ text "  bits"
+
+abbrev pub rowStart : ℕ → List ℕ
+rowStart sb = aligned 7 (numberText sb) ++ text " |"
 
 -- a slot's signal-to-mask ratio, its steps, and the mask-to-noise ratio that they leave
 unfoldable pub slotColumns : Float → ℕ → List ℕ
 slotColumns smr steps =
     aligned 10 (decibelsText smr) ++ aligned 7 (numberText steps) ++ aligned 10 (decibelsText (slotMnr steps smr)) ++ text " |"
 
-unfoldable pub channelColumns : List ℕ → List (List Float) → ℕ → ℕ → List ℕ
-channelColumns steps smr sb channels = joined (λ ch. slotColumns (smrAt smr ch sb) (getD steps (slotOf ch sb) 0)) channels
+abbrev pub channelColumns : List ℕ → List (List Float) → ℕ → ℕ → List ℕ
+channelColumns steps smr sb ch = slotColumns (smrAt smr ch sb) (getD steps (slotOf ch sb) 0)
 
 -- the bits charged for the fields of a subband; the steps are by slot
 abbrev pub bitsIn : List ℕ → ℕ → AllocationField → ℕ
@@ -43,4 +49,4 @@ subbandBits l steps sb = sumOver (bitsIn steps sb) (fieldsOf l)
 
 unfoldable pub subbandLine : Layout → List ℕ → List (List Float) → ℕ → List ℕ
 subbandLine l steps smr sb =
-    aligned 7 (numberText sb) ++ text " |" ++ channelColumns steps smr sb (channelCount l) ++ aligned 6 (numberText (subbandBits l steps sb))
+    rowStart sb ++ joined (channelColumns steps smr sb) (channelCount l) ++ aligned 6 (numberText (subbandBits l steps sb))

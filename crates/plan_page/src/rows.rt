@@ -4,7 +4,7 @@ ghost use mathlib.Core.List.{_++_};
 ghost use Prim.Native.Nat.{_≤_, _<_};
 ghost use Rattle.plan_text.specs.Quoted.{text};
 ghost use Rattle.text_line.specs.Line.{textOf, cut};
-ghost use Rattle.plan_page.specs.Rows.{headingLine, slotColumns, channelColumns, subbandLine};
+ghost use Rattle.plan_page.specs.Rows.{joined, columnHeads, headingLine, rowStart, slotColumns, channelColumns, subbandLine};
 ghost use Rattle.plan_page.specs.Charged.{BitsIn, SubbandBitsAre};
 use layout::{AllocationField, Layout};
 use text_line::Line;
@@ -13,18 +13,33 @@ pub fn heading(channels: usize) -> Line
     requires { ⌜ channels ≤ 2 ⌝ }
     ensures { λ r. ⌜ textOf r ≡ headingLine channels ⌝ }
 {
-    let mut line = Line::new().text(b"subband |");
+    let line = all_columns(channels);
+    line.text(b"  bits")
+}
+
+// The heading as far as the last channel's columns.
+fn all_columns(channels: usize) -> Line
+    requires { ⌜ channels ≤ 2 ⌝ }
+    ensures { λ r. ⌜ textOf r ≡ cut (text "subband |" ++ joined (λ ch. columnHeads) channels) ⌝ }
+{
+    let mut line = heading_start();
     let mut ch: usize = 0;
     while ch < channels {
         line = columns(line);
         ch = ch + 1;
     }
-    line.text(b"  bits")
+    line
+}
+
+fn heading_start() -> Line
+    ensures { λ r. ⌜ textOf r ≡ cut (text "subband |") ⌝ }
+{
+    Line::new().text(b"subband |")
 }
 
 // A channel's columns.
 fn columns(line: Line) -> Line
-    ensures { λ r. ⌜ textOf r ≡ cut (textOf line ++ text "     ratio  steps      left |") ⌝ }
+    ensures { λ r. ⌜ textOf r ≡ cut (textOf line ++ columnHeads) ⌝ }
 {
     line.text(b"     ratio  steps      left |")
 }
@@ -34,23 +49,28 @@ pub fn subband_line(layout: Layout, steps: [u32; 64], smr_db: [[f64; 32]; 2], sb
     ensures { λ r. ⌜ textOf r ≡ subbandLine layout steps «smr_db» sb ⌝ }
 {
     let bits = subband_bits(layout, &steps, sb);
-    let start = Line::new().number_in(7, sb as u64).text(b" |");
-    let line = channel_columns(start, layout.channel_count(), &steps, &smr_db, sb);
+    let line = channel_columns(layout.channel_count(), &steps, &smr_db, sb);
     line.number_in(6, bits)
 }
 
-// The columns of a subband's channels.
-fn channel_columns(start: Line, channels: usize, steps: &[u32; 64], smr_db: &[[f64; 32]; 2], sb: usize) -> Line
+// A row as far as its last channel's columns.
+fn channel_columns(channels: usize, steps: &[u32; 64], smr_db: &[[f64; 32]; 2], sb: usize) -> Line
     requires { ⌜ (channels ≤ 2) × (sb < 32) ⌝ }
-    ensures { λ r. ⌜ textOf r ≡ cut (textOf start ++ channelColumns (now (steps .entry)) (now («smr_db» .entry)) sb channels) ⌝ }
+    ensures { λ r. ⌜ textOf r ≡ cut (rowStart sb ++ joined (channelColumns (now (steps .entry)) (now («smr_db» .entry)) sb) channels) ⌝ }
 {
-    let mut line = start;
+    let mut line = row_start(sb);
     let mut ch: usize = 0;
     while ch < channels {
         line = slot_columns(line, smr_db[ch][sb], steps[32 * ch + sb]);
         ch = ch + 1;
     }
     line
+}
+
+fn row_start(sb: usize) -> Line
+    ensures { λ r. ⌜ textOf r ≡ cut (rowStart sb) ⌝ }
+{
+    Line::new().number_in(7, sb as u64).text(b" |")
 }
 
 // A slot's ratio, its steps, and the ratio that they leave.

@@ -12,8 +12,8 @@ use borrow.Author.Needs.{needs}
 use Rattle.plan_page.proofs.rows.slot_columns.Statement.{statement}
 use Rattle.plan_page.proofs.rows.slot_columns.Tie as tie
 
-slot-ratio-requires : tie.Need-slot-ratio-requires
-slot-ratio-requires c κs = search needs
+slot-mnr-requires : tie.Need-slot-mnr-requires
+slot-mnr-requires c κs = search needs
 
 decibels-in-requires : tie.Need-decibels-in-requires
 decibels-in-requires c κs = search needs
@@ -39,13 +39,13 @@ returns c =
     let steps = s .args .nb-steps in
     let t = textOf (s .args .line) in
     more t _ _ (more t _ _ (more t _ _ (third .before .before .decibels-in .ensures) (third .before .number-in .ensures)) (third .decibels-in2 .ensures)) (c .text .ensures)
-    ∙ ap (λ (y : Float). cut (t ++ (aligned 10 (decibelsText smr) ++ aligned 7 (numberText steps) ++ aligned 10 (decibelsText y) ++ text " |"))) (third .before .before .before .slot-ratio .ensures)
+    ∙ ap (λ (y : Float). cut (t ++ (aligned 10 (decibelsText smr) ++ aligned 7 (numberText steps) ++ aligned 10 (decibelsText y) ++ text " |"))) (third .before .before .before .slot-mnr .ensures)
 
 pub slot-columns-spec : {M : Type 1} → statement M
 slot-columns-spec =
     tie.close
     (tie.spec
-    slot-ratio-requires
+    slot-mnr-requires
     decibels-in-requires
     number-in-requires
     decibels-in-requires-2
