@@ -13,13 +13,11 @@ use denote.Shadow.{shadow}
 use denote.Laws.{Is}
 use denote.Array.{Array, each, inArray}
 use denote.Floats.{FloatOf, passes}
-use borrow.Author.Tests.{eqb-true, eq-eqb, le-leb, lt-leb}
+use borrow.Author.Tests.{eqb-true, le-leb, lt-leb, leb-true, leb-false}
 use Rattle.header.specs.Questions.{number}
 use Rattle.header.specs.Header.{frameBytes, freeFormat}
 use Rattle.header.proofs.QuestionLaws.{behind, all-yes, some-no, said-yes, said-no}
 use Rattle.layout.specs.declared.Layout.{Layout}
-use Rattle.audio_data.specs.declared.AudioData.{AudioData}
-use Rattle.audio_data.specs.Record.{filler}
 use Rattle.encoder_bit_budget.specs.declared.Request.{Request}
 use Rattle.encoder_bit_budget.specs.declared.FixedBitBudget.{FixedBitBudget}
 use Rattle.encoder_bit_budget.specs.declared.BitAllocError.{BitAllocError}
@@ -31,8 +29,8 @@ use Rattle.encoder_bit_budget.proofs.BudgetLaws.{refusing-header, answer-is, ac
 use Rattle.encoder_bit_budget.proofs.AvailableLaws.{natural-minus}
 use Rattle.encoder_bit_allocator.specs.declared.Allocation.{Allocation}
 use Rattle.encoder_bit_allocator.specs.Entries.{worstCase}
-use Rattle.encoder_bit_allocator.specs.Allocation.{bitsAsked, allocationAsked, accepted, refused, insufficient, layoutFor, allocationOf, Worth, AllocationIs}
-use Rattle.encoder_bit_allocator.specs.Laid.{CostsAre}
+use Rattle.encoder_bit_allocator.specs.Allocation.{bitsAsked, allocationAsked, accepted, refused, short, layoutFor, allocationOf, Worth, AllocationIs}
+use Rattle.encoder_bit_allocator.specs.Laid.{CostsAre, allocationUnder}
 use Rattle.encoder_bit_allocator.proofs.RunLaws.{same-costs}
 use Rattle.encoder_bit_allocator.proofs.WorthLaws.{worth}
 
@@ -70,8 +68,8 @@ module _ (q : Request) where
   enough : number (headerAsked (q .header)) ≡ 0 → fixedOf q + q .banc ≤ cbOf q → number (allocationAsked q) ≡ 0
   enough z l = then-bits z ∙ said-yes 0 (bitsAsked q) [] (le-leb (fixedOf q + q .banc) (cbOf q) l)
 
-  short : number (headerAsked (q .header)) ≡ 0 → cbOf q < fixedOf q + q .banc → number (allocationAsked q) ≡ 4
-  short z l = then-bits z ∙ said-no 0 (bitsAsked q) [] (lt-leb (fixedOf q + q .banc) (cbOf q) l)
+  too-short : number (headerAsked (q .header)) ≡ 0 → cbOf q < fixedOf q + q .banc → number (allocationAsked q) ≡ 4
+  too-short z l = then-bits z ∙ said-no 0 (bitsAsked q) [] (lt-leb (fixedOf q + q .banc) (cbOf q) l)
 
 -- ---- free format
 
@@ -97,7 +95,7 @@ module _ (q : Request) (free : freeFormat (q .header) ≡ true) where
 module _ (q : Request) (smr : List (List Float)) where
   abbrev answer : ℕ → Allocation
   answer n =
-      cond (eqb n 0) (accepted (layoutFor q) smr (worstCase (layoutFor q)) (natural (offeredOf q))) (cond (eqb n 4) (insufficient q) (refused n))
+      cond (eqb n 0) (accepted (layoutFor q) smr (worstCase (layoutFor q)) (natural (offeredOf q))) (cond (eqb n 4) (short (cbOf q) (fixedOf q) (q .banc)) (refused n))
 
   answered : (n : ℕ) → number (allocationAsked q) ≡ n → answer n ≡ allocationOf q smr
   unfolding allocationOf
@@ -109,7 +107,7 @@ module _ (q : Request) (smr : List (List Float)) where
   number-is = go (number (allocationAsked q)) (eqb (number (allocationAsked q)) 0) (eqb (number (allocationAsked q)) 4) refl refl
     where
       go : (n : ℕ) (a b : Bool) → eqb n 0 ≡ a → eqb n 4 ≡ b
-        → cond a (accepted (layoutFor q) smr (worstCase (layoutFor q)) (natural (offeredOf q))) (cond b (insufficient q) (refused n)) .number ≡ n
+        → cond a (accepted (layoutFor q) smr (worstCase (layoutFor q)) (natural (offeredOf q))) (cond b (short (cbOf q) (fixedOf q) (q .banc)) (refused n)) .number ≡ n
       go n true b z f = sym (eqb-true n 0 z)
       go n false true z f = sym (eqb-true n 4 f)
       go n false false z f = refl
@@ -125,7 +123,7 @@ module _ (q : Request) (smr : List (List Float)) where
           go false p = sym (else-header q p) ∙ e
 
   free-number : freeFormat (q .header) ≡ true → number (headerAsked (q .header)) ≡ 0 → allocationOf q smr .number ≡ 4
-  free-number free z = ap (λ (a : Allocation). a .number) (sym (answered 4 (short q z (free-short q free z))))
+  free-number free z = ap (λ (a : Allocation). a .number) (sym (answered 4 (too-short q z (free-short q free z))))
 
   -- the whole answer, and what it is worth
   answers : (r : Allocation) → r ≡ allocationOf q smr
@@ -160,28 +158,53 @@ module _ (q : Request) (smr : List (List Float)) where
     same-fixed : fixedIn b ≡ fixedOf q
     same-fixed = ap (λ a. fixedIn (a .budget)) ok
 
+    same-offered : b .cb - (fixedIn b + q .banc) ≡ natural (offeredOf q)
+    same-offered = ap₂ (λ (x y : ℕ). x - (y + q .banc)) (cb-is q b ok) same-fixed ∙ sym (natural-minus (cbOf q) (fixedOf q + q .banc))
+
     -- the frame is too small
-    pub is-insufficient : (fixed : ℕ) (d : AudioData) → b .cb < fixedIn b + q .banc → fixed ≡ fixedIn b → d ≡ filler
-      → AllocationIs q smr (record { number = 4; audio = d; left = 0; cb = b .cb; fixed = fixed; banc = q .banc })
-    is-insufficient fixed d l e f =
+    is-short : leb (fixedIn b + q .banc) (b .cb) ≡ false → AllocationIs q smr (short (b .cb) (fixedIn b) (q .banc))
+    is-short e =
+        let l = leb-false (fixedIn b + q .banc) (b .cb) e in
         let m : cbOf q < fixedOf q + q .banc = subst (λ (n : ℕ). n < fixedOf q + q .banc) (cb-is q b ok) (subst (λ (n : ℕ). b .cb < n + q .banc) same-fixed l) in
         answers _
-        ((λ i. record { number = 4; audio = f i; left = 0; cb = cb-is q b ok i; fixed = (e ∙ same-fixed) i; banc = q .banc })
-        ∙ answered 4 (short q all-asked m))
+        ((λ i. short (cb-is q b ok i) (same-fixed i) (q .banc)) ∙ answered 4 (too-short q all-asked m))
         (λ o. absurd (let z : _≡_ {A = ℕ} 4 0 = o in omega arith))
 
     -- accepted
-    pub is-accepted : (r : Allocation) (l : Layout) (costs : List ℕ) (offered : ℕ) → ((ch sb : ℕ) → T (fits binary64 (smrAt smr ch sb)))
-      → fixedIn b + q .banc ≤ b .cb → l ≡ layoutIn b → CostsAre l costs → offered ≡ b .cb - (fixedIn b + q .banc) → r ≡ accepted l smr costs offered
-      → AllocationIs q smr r
+    is-accepted : ((ch sb : ℕ) → T (fits binary64 (smrAt smr ch sb))) → leb (fixedIn b + q .banc) (b .cb) ≡ true
+      → AllocationIs q smr (accepted (layoutIn b) smr (worstCase (layoutIn b)) (b .cb - (fixedIn b + q .banc)))
     unfolding accepted
-    is-accepted r l costs offered fit m e c o p =
+    is-accepted fit e =
+        let m = leb-true (fixedIn b + q .banc) (b .cb) e in
         let m′ : fixedOf q + q .banc ≤ cbOf q = subst (λ (n : ℕ). fixedOf q + q .banc ≤ n) (cb-is q b ok) (subst (λ (n : ℕ). n + q .banc ≤ b .cb) same-fixed m) in
-        let k : l ≡ layoutFor q = e ∙ ap (λ a. layoutIn (a .budget)) ok in
-        let n : offered ≡ natural (offeredOf q) =
-            o ∙ ap₂ (λ (x y : ℕ). x - (y + q .banc)) (cb-is q b ok) same-fixed ∙ sym (natural-minus (cbOf q) (fixedOf q + q .banc)) in
-        let w : r ≡ accepted (layoutFor q) smr (worstCase (layoutFor q)) (natural (offeredOf q)) =
-            p ∙ same-costs l smr costs offered c ∙ ap₂ (λ (l : Layout) (n : ℕ). accepted l smr (worstCase l) n) k n in
-        answers r (w ∙ answered 0 (enough q all-asked m′))
+        let w = ap₂ (λ (l : Layout) (n : ℕ). accepted l smr (worstCase l) n) (ap (λ a. layoutIn (a .budget)) ok) same-offered in
+        answers _ (w ∙ answered 0 (enough q all-asked m′))
         (λ z. subst (λ (a : Allocation). Worth (layoutFor q) smr (worstCase (layoutFor q)) (natural (offeredOf q)) (a .audio .«nb_steps») (a .left)) (sym w)
         (worth (layoutFor q) smr (worstCase (layoutFor q)) (natural (offeredOf q)) fit))
+
+    pub is-under : (r : Allocation) → ((ch sb : ℕ) → T (fits binary64 (smrAt smr ch sb))) → r ≡ allocationUnder b smr (q .banc) → AllocationIs q smr r
+    unfolding allocationUnder
+    is-under r fit p = subst (AllocationIs q smr) (sym p) (go (leb (fixedIn b + q .banc) (b .cb)) refl)
+      where
+        go : (v : Bool) → leb (fixedIn b + q .banc) (b .cb) ≡ v
+          → AllocationIs q smr (cond v (accepted (layoutIn b) smr (worstCase (layoutIn b)) (b .cb - (fixedIn b + q .banc))) (short (b .cb) (fixedIn b) (q .banc)))
+        go true e = is-accepted fit e
+        go false e = is-short e
+
+-- ---- under an accepted budget, as the code finds it
+
+module _ (b : FixedBitBudget) (smr : List (List Float)) (banc : ℕ) where
+  pub under-accepted : (r : Allocation) (l : Layout) (costs : List ℕ) (fixed : ℕ) → fixed ≡ fixedIn b → fixed + banc ≤ b .cb → l ≡ layoutIn b → CostsAre l costs
+    → r ≡ accepted l smr costs (b .cb - (fixed + banc)) → r ≡ allocationUnder b smr banc
+  unfolding allocationUnder
+  under-accepted r l costs fixed f m e c p =
+      let k : fixedIn b + banc ≤ b .cb = subst (λ (n : ℕ). n + banc ≤ b .cb) f m in
+      rw (le-leb (fixedIn b + banc) (b .cb) k)
+      (p ∙ same-costs l smr costs (b .cb - (fixed + banc)) c
+      ∙ ap₂ (λ (l : Layout) (n : ℕ). accepted l smr (worstCase l) (b .cb - (n + banc))) e f)
+
+  pub under-short : (r : Allocation) (fixed : ℕ) → fixed ≡ fixedIn b → b .cb < fixed + banc → r ≡ short (b .cb) fixed banc → r ≡ allocationUnder b smr banc
+  unfolding allocationUnder
+  under-short r fixed f m p =
+      let k : b .cb < fixedIn b + banc = subst (λ (n : ℕ). b .cb < n + banc) f m in
+      rw (lt-leb (fixedIn b + banc) (b .cb) k) (p ∙ ap (λ (n : ℕ). short (b .cb) n banc) f)

@@ -85,8 +85,8 @@ accepted l smr costs offered =
 abbrev pub refused : ℕ → Allocation
 refused n = record { number = n; audio = filler; left = 0; cb = 0; fixed = 0; banc = 0 }
 
-abbrev pub insufficient : Request → Allocation
-insufficient q = record { number = 4; audio = filler; left = 0; cb = cbOf q; fixed = fixedOf q; banc = q .banc }
+abbrev pub short : ℕ → ℕ → ℕ → Allocation
+short cb fixed banc = record { number = 4; audio = filler; left = 0; cb = cb; fixed = fixed; banc = banc }
 
 -- the layout of a request that is accepted
 abbrev pub layoutFor : Request → Layout
@@ -97,7 +97,7 @@ unfolding accepted worstCase
 allocationOf q smr =
     let n = number (allocationAsked q) in
     let l = layoutFor q in
-    cond (eqb n 0) (accepted l smr (worstCase l) (natural (offeredOf q))) (cond (eqb n 4) (insufficient q) (refused n))
+    cond (eqb n 0) (accepted l smr (worstCase l) (natural (offeredOf q))) (cond (eqb n 4) (short (cbOf q) (fixedOf q) (q .banc)) (refused n))
 
 -- ---- what an accepted allocation is worth, said of its steps and of the bits left
 

@@ -1,17 +1,22 @@
--- The rules as the code lays them out in tables.
+-- The rules as the code lays them out in tables, and what it makes of them.
 -- For the contracts of private functions alone: nothing that a caller has to believe stands here.
 use Prim.Native.Nat.{ℕ, _+_, _-_, _*_, _≤_, _<_}
 use mathlib.Core.Path.{_≡_}
+use mathlib.Core.Bool.{cond}
 use mathlib.Core.List.{List}
+use lib.Dec.{leb}
 use lib.Ieee.{Float, nan}
 use lib.ListN.{length, getD}
 use Rattle.bitalloc.specs.Tables.{rowOf}
 use Rattle.layout.specs.declared.Layout.{Layout}
 use Rattle.layout.specs.Layout.{fieldsOf, fieldIn}
+use Rattle.encoder_bit_budget.specs.declared.FixedBitBudget.{FixedBitBudget}
+use Rattle.encoder_bit_budget.specs.Budget.{fixedIn, layoutIn}
 use Rattle.allocation_rounds.specs.declared.Run.{Run}
 use Rattle.allocation_rounds.specs.Rounds.{placeIn}
 use Rattle.encoder_bit_allocator.specs.Entries.{Entry, mnrAt, chargeAt, entryIn, worstCase}
-use Rattle.encoder_bit_allocator.specs.Allocation.{runOf}
+use Rattle.encoder_bit_allocator.specs.declared.Allocation.{Allocation}
+use Rattle.encoder_bit_allocator.specs.Allocation.{runOf, accepted, short}
 
 -- the tables of ratios and of charges, sixteen entries to a field, as far as entry n: at the places of the rows, and free behind them
 pub record LaidOut (es : List Entry) (n : ℕ) (mnrs : List Float) (charges : List ℕ) : Type 0 where
@@ -36,6 +41,12 @@ pub record CostsAre (l : Layout) (r : List ℕ) : Type 0 where
 -- places that a row of sixteen numbers has
 abbrev pub Small : List ℕ → Type 0
 Small places = (f : ℕ) → placeIn places f < 16
+
+-- the answer under an accepted budget
+unfoldable pub allocationUnder : FixedBitBudget → List (List Float) → ℕ → Allocation
+allocationUnder b smr banc =
+    let l = layoutIn b in
+    cond (leb (fixedIn b + banc) (b .cb)) (accepted l smr (worstCase l) (b .cb - (fixedIn b + banc))) (short (b .cb) (fixedIn b) banc)
 
 -- where the rounds end
 pub record RunIs (l : Layout) (smr : List (List Float)) (costs : List ℕ) (offered : ℕ) (r : Run) : Type 0 where

@@ -5,15 +5,15 @@ ghost use lib.ListN.{length};
 ghost use Rattle.bitalloc.specs.Tables.{rowOf};
 ghost use Rattle.layout.specs.Layout.{fieldsOf};
 ghost use Rattle.layout.specs.Slots.{channelIn, subbandIn};
-ghost use Rattle.encoder_bit_budget.specs.Budget.{plain};
+ghost use Rattle.encoder_bit_budget.specs.Budget.{plain, fixedIn};
 ghost use Rattle.encoder_bit_budget.specs.Demand.{smrsOf};
 ghost use Rattle.encoder_bit_allocator.specs.Entries.{slotMnr, mnrOf, entriesOf, ChargeIs};
-ghost use Rattle.encoder_bit_allocator.specs.Allocation.{stepsHeld, stepsOf, accepted, refused, AllocationIs};
-ghost use Rattle.encoder_bit_allocator.specs.Laid.{LaidOut, TopsTo, Modest, CostsAre, Small, RunIs};
+ghost use Rattle.encoder_bit_allocator.specs.Allocation.{stepsHeld, stepsOf, accepted, refused, short, AllocationIs};
+ghost use Rattle.encoder_bit_allocator.specs.Laid.{LaidOut, TopsTo, Modest, CostsAre, Small, RunIs, allocationUnder};
 use allocation_rounds::Run;
 use audio_data::AudioData;
 use bitalloc::{BitAllocTable, OptionU32};
-use encoder_bit_budget::{Budget, OptionF64, Request};
+use encoder_bit_budget::{Budget, FixedBitBudget, OptionF64, Request};
 use header::FrameHeader;
 use layout::{AllocationField, Layout};
 
@@ -259,26 +259,38 @@ fn allocate(request: Request, smr_db: [[f64; 32]; 2]) -> Allocation
     ensures { λ r. ⌜ AllocationIs request «smr_db» r ⌝ }
 {
     let budget = request.budget();
-    let Budget::Ok(b) = budget else {
-        return refusal(budget.refusal());
-    };
-    let banc = request.banc;
-    let cb = b.cb;
+    match budget {
+        Budget::Ok(b) => allocate_under(b, &smr_db, request.banc),
+        Budget::Refused(error) => refusal(error.number()),
+    }
+}
+
+// The same under an accepted budget: the bits are asked, and what they leave is offered to the fields.
+fn allocate_under(b: FixedBitBudget, smr_db: &[[f64; 32]; 2], banc: u32) -> Allocation
+    requires { ⌜ fixedIn b ≤ 236 ⌝ }
+    ensures { λ r. ⌜ r ≡ allocationUnder b (now («smr_db» .entry)) banc ⌝ }
+{
     let fixed = b.fixed();
     let spent = fixed + (banc as u64);
-    if spent <= (cb as u64) {
+    if spent <= (b.cb as u64) {
         let layout = b.layout();
         let costs = worst_case(layout);
-        return accepted(layout, &smr_db, &costs, cb - (spent as u32));
+        accepted(layout, smr_db, &costs, b.cb - (spent as u32))
+    } else {
+        insufficient(b.cb, fixed as u32, banc)
     }
-    let audio = AudioData::filler();
-    let fixed_bits = fixed as u32;
+}
+
+// The frame is too small for its fixed and ancillary bits.
+fn insufficient(cb: u32, fixed: u32, banc: u32) -> Allocation
+    ensures { λ r. ⌜ r ≡ short cb fixed banc ⌝ }
+{
     Allocation {
         number: 4,
-        audio,
+        audio: AudioData::filler(),
         left: 0,
         cb,
-        fixed: fixed_bits,
+        fixed,
         banc,
     }
 }

@@ -14,8 +14,10 @@ use Rattle.encoder_bit_budget.specs.declared.Request.{Request}
 use Rattle.encoder_bit_budget.specs.declared.FixedBitBudget.{FixedBitBudget}
 use Rattle.encoder_bit_budget.specs.declared.BitAllocError.{BitAllocError}
 use Rattle.encoder_bit_budget.specs.declared.BitAllocError.the-variants.{NoBitallocTable, ZeroSampleRate, FrameTooLarge}
+use Rattle.encoder_bit_budget.specs.declared.Budget.{Budget}
 use Rattle.encoder_bit_budget.specs.declared.Budget.the-variants.{Ok, Refused}
 use Rattle.encoder_bit_budget.specs.Budget.{BudgetAnswer, errorNumber, budgetIn, budgetOf, cbOf, fixedIn, Available, availableOf, natural}
+use Rattle.encoder_bit_budget.specs.OnTheWay.{availableBy}
 use Rattle.encoder_bit_budget.proofs.BudgetLaws.{cb-is}
 
 -- ---- a difference below 0 too
@@ -59,22 +61,25 @@ natural-minus a b = go (leb b a) refl
 
 -- ---- the answers
 
--- what the definition makes of the budget's answer
-abbrev availableBy : Request → BudgetAnswer → Available
-availableBy q a = record { answer = a .answer; bits = cond (eqb (a .answer) 0) (minus (cbOf q) (fixedIn (a .budget) + q .banc)) (pos 0) }
+abbrev offered : Request → BudgetAnswer → Available
+offered q a = record { answer = a .answer; bits = cond (eqb (a .answer) 0) (minus (cbOf q) (fixedIn (a .budget) + q .banc)) (pos 0) }
 
-pub available-refused : (q : Request) (e : BitAllocError) (v : Available) → budgetIn (Refused e) ≡ budgetOf q
-  → v ≡ record { answer = errorNumber e; bits = pos 0 } → v ≡ availableOf q
-unfolding availableOf
-available-refused q e v p r = r ∙ go e ∙ ap (availableBy q) p
-  where
-    go : (e : BitAllocError) → _≡_ {A = Available} (record { answer = errorNumber e; bits = pos 0 }) (availableBy q (budgetIn (Refused e)))
-    go NoBitallocTable = refl
-    go ZeroSampleRate = refl
-    go FrameTooLarge = refl
+pub refused-in : (banc : ℕ) (e : BitAllocError) → record { answer = errorNumber e; bits = pos 0 } ≡ availableBy banc (budgetIn (Refused e))
+unfolding availableBy
+refused-in banc NoBitallocTable = refl
+refused-in banc ZeroSampleRate = refl
+refused-in banc FrameTooLarge = refl
 
-pub available-accepted : (q : Request) (b : FixedBitBudget) (v : Available) (z : ℤ) → budgetIn (Ok b) ≡ budgetOf q
-  → v ≡ record { answer = 0; bits = z } → z ≡ minus (b .cb) (fixedIn b + q .banc) → v ≡ availableOf q
-unfolding availableOf
-available-accepted q b v z p r e =
-    r ∙ ap (λ (z : ℤ). record { answer = 0; bits = z }) (e ∙ ap (λ (c : ℕ). minus c (fixedIn b + q .banc)) (cb-is q b p)) ∙ ap (availableBy q) p
+pub accepted-in : (banc : ℕ) (b : FixedBitBudget) (z : ℤ) → z ≡ minus (b .cb) (fixedIn b + banc)
+  → record { answer = 0; bits = z } ≡ availableBy banc (budgetIn (Ok b))
+unfolding availableBy
+accepted-in banc b z e = ap (λ (z : ℤ). record { answer = 0; bits = z }) e
+
+-- the offer by the budget's answer is the definition's
+pub available-is : (q : Request) (r : Budget) (v : Available) → budgetIn r ≡ budgetOf q → v ≡ availableBy (q .banc) (budgetIn r) → v ≡ availableOf q
+unfolding availableOf availableBy
+available-is q (Ok b) v p e =
+    e ∙ ap (λ (c : ℕ). record { answer = 0; bits = minus c (fixedIn b + q .banc) }) (cb-is q b p) ∙ ap (offered q) p
+available-is q (Refused NoBitallocTable) v p e = e ∙ ap (offered q) p
+available-is q (Refused ZeroSampleRate) v p e = e ∙ ap (offered q) p
+available-is q (Refused FrameTooLarge) v p e = e ∙ ap (offered q) p

@@ -31,7 +31,7 @@ use Rattle.encoder_bit_budget.specs.declared.BitAllocError.{BitAllocErro
 use Rattle.encoder_bit_budget.specs.declared.BitAllocError.the-variants.{NoBitallocTable, ZeroSampleRate, FrameTooLarge}
 use Rattle.encoder_bit_budget.specs.declared.Budget.{Budget}
 use Rattle.encoder_bit_budget.specs.declared.Budget.the-variants.{Ok, Refused}
-use Rattle.encoder_bit_budget.specs.Budget.{tableAsked, sizeAsked, headerAsked, errorNumber, cbOf, crcBits, allocationBits, budgetWith, budgetUnder, layoutIn, budgetIn, budgetOf, acceptedUnder, Bounded, BudgetIs}
+use Rattle.encoder_bit_budget.specs.Budget.{plain, tableAsked, sizeAsked, headerAsked, errorNumber, cbOf, crcBits, allocationBits, budgetWith, budgetUnder, layoutIn, budgetIn, budgetOf, acceptedUnder, Bounded, BudgetIs}
 
 -- ---- what the frame's size tells
 
@@ -173,6 +173,19 @@ module _ (q : Request) where
     where
       held : {c d : FixedBitBudget} → Ok c ≡ Ok d → c ≡ d
       held e = cc
+
+  -- the ancillary bits are not read
+  same-under : (n : ℕ) (o : Option BitAllocTable) → acceptedUnder (plain (q .header) 0) n o ≡ acceptedUnder q n o
+  unfolding budgetUnder
+  same-under zero none = refl
+  same-under zero (some t) = refl
+  same-under (suc n) o = refl
+
+  pub same-budget : (r : Budget) → BudgetIs (plain (q .header) 0) r → BudgetIs q r
+  unfolding budgetOf
+  same-budget r b =
+      let n = number (headerAsked (q .header)) in
+      record { whole = b .whole ∙ (λ i. record { answer = n; budget = same-under n (tableOf (q .header)) i }); bounded = b .bounded }
 
   -- ---- what an entry that calls for the budget learns
 

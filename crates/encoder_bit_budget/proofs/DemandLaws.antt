@@ -28,10 +28,12 @@ use Rattle.encoder_bit_budget.specs.declared.FixedBitBudget.{FixedBitBud
 use Rattle.encoder_bit_budget.specs.declared.BitAllocError.{BitAllocError}
 use Rattle.encoder_bit_budget.specs.declared.BitAllocError.the-variants.{NoBitallocTable, ZeroSampleRate, FrameTooLarge}
 use Rattle.encoder_bit_budget.specs.declared.Budget.the-variants.{Ok, Refused}
+use Rattle.encoder_bit_budget.specs.declared.DemandBits.{DemandBits}
 use Rattle.encoder_bit_budget.specs.declared.DemandBits.the-variants as Demand
 use Rattle.encoder_bit_budget.specs.Budget.{BudgetAnswer, plain, errorNumber, budgetIn, budgetOf, layoutIn}
 use Rattle.encoder_bit_budget.specs.Snr.{snr}
-use Rattle.encoder_bit_budget.specs.Demand.{neededSteps, neededBits, orTop, smrAt, smrsOf, most, layoutDemand, Demanded, demandOf, FirstStepIs, NeededIs, FieldDemandIs, LayoutDemandIs, DemandIs}
+use Rattle.encoder_bit_budget.specs.Demand.{neededSteps, neededBits, orTop, smrAt, smrsOf, most, layoutDemand, Demanded, demandOf, FirstStepIs, DemandIs}
+use Rattle.encoder_bit_budget.specs.OnTheWay.{demandBy, NeededIs, FieldDemandIs, LayoutDemandIs, DemandInIs}
 
 -- ---- the steps that a ratio needs, by a search along the first places of a row
 
@@ -146,24 +148,22 @@ field-demand t smr x first r row ratio e m f n = record {
 
 -- ---- the answers
 
--- what the definition makes of the budget's answer
-abbrev demandBy : List (List Float) → BudgetAnswer → Demanded
-demandBy smr a = record { answer = a .answer; bits = cond (eqb (a .answer) 0) (layoutDemand (layoutIn (a .budget)) smr) 0 }
-
-pub demand-refused : (h : FrameHeader) (smr : List (List Float)) (e : BitAllocError) → budgetIn (Refused e) ≡ budgetOf (plain h 0)
-  → DemandIs h smr (Demand.Refused e)
-unfolding demandOf
-demand-refused h smr e p = record { whole = go e ∙ ap (demandBy smr) p; small = lit≤ tt }
+pub refused-in : (smr : List (List Float)) (e : BitAllocError) → DemandInIs (budgetIn (Refused e)) smr (Demand.Refused e)
+refused-in smr e = record { whole = go e; small = lit≤ tt }
   where
     go : (e : BitAllocError) → _≡_ {A = Demanded} (record { answer = errorNumber e; bits = 0 }) (demandBy smr (budgetIn (Refused e)))
     go NoBitallocTable = refl
     go ZeroSampleRate = refl
     go FrameTooLarge = refl
 
-pub demanded : (h : FrameHeader) (smr : List (List Float)) (b : FixedBitBudget) (l : Layout) (bits : ℕ) → budgetIn (Ok b) ≡ budgetOf (plain h 0)
-  → l ≡ layoutIn b → LayoutDemandIs l smr bits → DemandIs h smr (Demand.Bits bits)
-unfolding demandOf
-demanded h smr b l bits p e d = record {
-  whole = ap (λ (n : ℕ). record { answer = 0; bits = n }) (d .whole ∙ ap (λ (l : Layout). layoutDemand l smr) e) ∙ ap (demandBy smr) p;
+pub accepted-in : (smr : List (List Float)) (b : FixedBitBudget) (l : Layout) (bits : ℕ) → l ≡ layoutIn b → LayoutDemandIs l smr bits
+  → DemandInIs (budgetIn (Ok b)) smr (Demand.Bits bits)
+accepted-in smr b l bits e d = record {
+  whole = ap (λ (n : ℕ). record { answer = 0; bits = n }) (d .whole ∙ ap (λ (l : Layout). layoutDemand l smr) e);
   small = d .most
 }
+
+-- the demand under the budget of a header
+pub demand-is : (h : FrameHeader) (smr : List (List Float)) (a : BudgetAnswer) (r : DemandBits) → a ≡ budgetOf (plain h 0) → DemandInIs a smr r → DemandIs h smr r
+unfolding demandOf
+demand-is h smr a r p d = record { whole = d .whole ∙ ap (demandBy smr) p; small = d .small }

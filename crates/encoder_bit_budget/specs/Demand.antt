@@ -88,17 +88,3 @@ pub record DemandIs (h : FrameHeader) (smr : List (List Float)) (r : DemandBits)
 pub record FirstStepIs (x : AllocationField) (r : ℕ) : Type 0 where
   pub whole : r ≡ firstStep x
   pub most : r ≤ 40
-
--- ---- for private functions' contracts alone
-
-pub record NeededIs (row : List ℕ) (smr : Float) (first r : ℕ) : Type 0 where
-  pub whole : r ≡ neededBits row smr first
-  pub most : r ≤ 576 + first
-
-pub record FieldDemandIs (t : BitAllocTable) (smr : List (List Float)) (x : AllocationField) (r : ℕ) : Type 0 where
-  pub whole : r ≡ fieldDemand t smr x
-  pub most : r ≤ 616
-
-pub record LayoutDemandIs (l : Layout) (smr : List (List Float)) (r : ℕ) : Type 0 where
-  pub whole : r ≡ layoutDemand l smr
-  pub most : r ≤ 60 * 616

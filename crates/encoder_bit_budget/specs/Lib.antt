@@ -1,3 +1,4 @@
 pub mod Snr
 pub mod Budget
 pub mod Demand
+pub mod OnTheWay

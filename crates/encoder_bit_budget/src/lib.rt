@@ -5,10 +5,13 @@ ghost use mathlib.Core.Bool.{cond};
 ghost use Prim.Native.Nat.{_≤_, _<_};
 ghost use lib.Ieee.{le};
 ghost use lib.ListN.{length, take};
+ghost use mathlib.Core.Option.{some};
 ghost use Rattle.bitalloc.specs.Tables.{sblimitOf};
+ghost use Rattle.bitalloc.specs.Select.{tableOf};
 ghost use Rattle.encoder_bit_budget.specs.Snr.{decibels, rowNumber, orPast, snrOf, snr, ratioIn};
 ghost use Rattle.encoder_bit_budget.specs.Budget.{errorNumber, plain, crcBits, allocationBits, fixedIn, layoutIn, budgetWith, budgetIn, availableIn, availableOf, BudgetIs};
-ghost use Rattle.encoder_bit_budget.specs.Demand.{smrsOf, most, neededSteps, demandIn, FirstStepIs, NeededIs, FieldDemandIs, LayoutDemandIs, DemandIs};
+ghost use Rattle.encoder_bit_budget.specs.Demand.{smrsOf, most, neededSteps, demandIn, FirstStepIs, DemandIs};
+ghost use Rattle.encoder_bit_budget.specs.OnTheWay.{availableBy, NeededIs, FieldDemandIs, LayoutDemandIs, DemandInIs};
 use bitalloc::{BitAllocTable, OptionTable};
 use header::{FrameHeader, FrameSize};
 use layout::{AllocationField, Layout};
@@ -170,21 +173,28 @@ impl Request {
     {
         let header = self.header;
         let selected = bitalloc::select_table(header);
-        let OptionTable::Some(table) = selected else {
-            return Budget::Refused(BitAllocError::NoBitallocTable);
-        };
-        let size = header.frame_size_bytes();
-        let FrameSize::Bytes(bytes) = size else {
-            return Budget::Refused(BitAllocError::ZeroSampleRate);
-        };
-        // From 536,870,912 bytes on the frame's bits do not fit 32 bits.
-        if 536_870_911 < bytes {
-            return Budget::Refused(BitAllocError::FrameTooLarge);
+        match selected {
+            OptionTable::Some(table) => budget_under(header, table),
+            OptionTable::None => Budget::Refused(BitAllocError::NoBitallocTable),
         }
-        let layout = Layout::of_header(header, table);
-        let cb = 8 * (bytes as u32);
-        Budget::Ok(budget_with(cb, header.protection_bit, layout))
     }
+}
+
+// The budget under the table that was selected.
+fn budget_under(header: FrameHeader, table: BitAllocTable) -> Budget
+    requires { ⌜ tableOf header ≡ some table ⌝ }
+    ensures { λ r. ⌜ BudgetIs (plain header 0) r ⌝ }
+{
+    let size = header.frame_size_bytes();
+    let FrameSize::Bytes(bytes) = size else {
+        return Budget::Refused(BitAllocError::ZeroSampleRate);
+    };
+    // From 536,870,912 bytes on the frame's bits do not fit 32 bits.
+    if 536_870_911 < bytes {
+        return Budget::Refused(BitAllocError::FrameTooLarge);
+    }
+    let layout = Layout::of_header(header, table);
+    Budget::Ok(budget_with(8 * (bytes as u32), header.protection_bit, layout))
 }
 
 // The bits that are fixed for a header's frame.
@@ -270,7 +280,13 @@ pub fn available_data_bits(header: FrameHeader, banc: u32) -> AvailableBits
     ensures { λ r. ⌜ availableIn r ≡ availableOf (plain header banc) ⌝ }
 {
     let request = Request { header, banc };
-    let budget = request.budget();
+    available_in(request.budget(), banc)
+}
+
+// What a budget offers.
+fn available_in(budget: Budget, banc: u32) -> AvailableBits
+    ensures { λ r. ⌜ availableIn r ≡ availableBy banc (budgetIn budget) ⌝ }
+{
     match budget {
         Budget::Ok(b) => {
             let spent = b.fixed() + (banc as u64);
@@ -313,9 +329,15 @@ impl DemandBits {
 pub fn demand_bits(header: FrameHeader, smr_db: [[f64; 32]; 2]) -> DemandBits
     ensures { λ r. ⌜ DemandIs header «smr_db» r ⌝ }
 {
-    let budget = fixed_bit_budget(header);
+    demand_in(fixed_bit_budget(header), &smr_db)
+}
+
+// What is demanded under a budget.
+fn demand_in(budget: Budget, smr_db: &[[f64; 32]; 2]) -> DemandBits
+    ensures { λ r. ⌜ DemandInIs (budgetIn budget) (now («smr_db» .entry)) r ⌝ }
+{
     match budget {
-        Budget::Ok(b) => DemandBits::Bits(layout_demand(b.layout(), &smr_db)),
+        Budget::Ok(b) => DemandBits::Bits(layout_demand(b.layout(), smr_db)),
         Budget::Refused(error) => DemandBits::Refused(error),
     }
 }
