@@ -8,7 +8,7 @@ use Rattle.header.specs.declared.Mode.the-variants.{Stereo, JointStereo, DualCh
 use Rattle.header.specs.Header.{boundOf, ChannelsAre}
 use Rattle.bitalloc.specs.declared.BitAllocTable.{BitAllocTable}
 use Rattle.bitalloc.specs.Tables.{sblimitOf}
-use Rattle.layout.specs.Layout.{sharedFrom, layoutOf, LayoutIs}
+use Rattle.layout.specs.Layout.{sharedFrom, layoutOf}
 
 pub bound-small : (m : Mode) (extension sblimit : ℕ) → sharedFrom m extension sblimit ≤ sblimit
 bound-small Stereo extension sblimit = omega arith
@@ -18,12 +18,8 @@ bound-small SingleChannel extension sblimit = omega arith
 
 pub laid-out : (h : FrameHeader) (t : BitAllocTable) {sblimit : ℕ} (bound channels : ℕ)
   → bound ≡ sharedFrom (h .mode) (boundOf (h .«mode_extension»)) sblimit → ChannelsAre (h .mode) channels → sblimit ≡ sblimitOf t
-  → LayoutIs h t (record { table = t; bound = bound; channels = channels })
+  → record { table = t; bound = bound; channels = channels } ≡ layoutOf h t
 unfolding layoutOf
 laid-out h t bound channels b c s =
     let e : bound ≡ sharedFrom (h .mode) (boundOf (h .«mode_extension»)) (sblimitOf t) = b ∙ ap (sharedFrom (h .mode) (boundOf (h .«mode_extension»))) s in
-    record {
-      whole = λ i. record { table = t; bound = e i; channels = c .whole i };
-      bound = rw e (bound-small (h .mode) (boundOf (h .«mode_extension»)) (sblimitOf t));
-      channels = c .most
-    }
+    λ i. record { table = t; bound = e i; channels = c .whole i }

@@ -105,11 +105,6 @@ slotsOf l = slotsIn (fieldsOf l)
 
 -- ---- what the functions promise
 
-pub record LayoutIs (h : FrameHeader) (t : BitAllocTable) (r : Layout) : Type 0 where
-  pub whole : r ≡ layoutOf h t
-  pub bound : r .bound ≤ sblimitOf t
-  pub channels : r .channels ≤ 2
-
 pub record ChannelCountIs (l : Layout) (r : ℕ) : Type 0 where
   pub whole : r ≡ channelCount l
   pub most : r ≤ 2

@@ -1,7 +1,7 @@
 // The layout of a frame's side information (ISO/IEC 11172-3 2.4.1.6): its allocation fields and its slots, in the order of the bitstream.
 ghost use mathlib.Core.Path.{_≡_};
 ghost use Rattle.header.specs.Header.{boundOf};
-ghost use Rattle.layout.specs.Layout.{own, sharedFrom, LayoutIs, ChannelCountIs, FieldsAre, FieldIs, ServedBy, SlotsAre, SlotIs};
+ghost use Rattle.layout.specs.Layout.{own, sharedFrom, layoutOf, ChannelCountIs, FieldsAre, FieldIs, ServedBy, SlotsAre, SlotIs};
 use bitalloc::{BitAllocTable, OptionU32};
 use header::{FrameHeader, Mode};
 
@@ -26,7 +26,7 @@ pub struct Layout {
 impl Layout {
     // The layout of a header's frame under a table.
     pub fn of_header(header: FrameHeader, table: BitAllocTable) -> Layout
-        ensures { λ r. ⌜ LayoutIs header table r ⌝ }
+        ensures { λ r. ⌜ r ≡ layoutOf header table ⌝ }
     {
         let bound = shared_from(header, table.sblimit());
         let channels = header.channels();

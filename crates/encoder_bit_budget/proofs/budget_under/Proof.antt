@@ -49,7 +49,7 @@ returns-3 c =
     let named = size .before .pre in
     let z = sized _ _ (ap sizeOf (sym (known .size .given .1)) ∙ size .frame-size-bytes .ensures .whole) in
     accepted _ _ _ named (all-asked _ _ named (z .rated) (subst (λ (n : ℕ). n ≤ 536_870_911) (z .many) (small .if1 .left)))
-    (under _ _ _ _ _ (z .many) (c .before .of-header .ensures .whole) (c .budget-with .ensures))
+    (under _ _ _ _ _ (z .many) (c .before .of-header .ensures) (c .budget-with .ensures))
 
 pub budget-under-spec : {M : Type 1} → statement M
 budget-under-spec =
