@@ -13,8 +13,6 @@ use Rattle.plan_text.specs.Digits.{numberTo}
 use Rattle.plan_text.specs.Quoted.{bytes}
 use Rattle.plan_words.specs.declared.Setting.{Setting}
 use Rattle.plan_words.specs.declared.Setting.the-variants.{SampleRate, BitRate, Channels, Bound, Lsf, Padding, Crc, Ancillary, Unknown}
-use Rattle.plan_words.specs.declared.OptionU32.{OptionU32}
-use Rattle.plan_words.specs.declared.OptionU32.the-variants.{Some, None}
 
 -- ---- words that stand for themselves
 
@@ -83,8 +81,3 @@ numberWord w =
 
 unfoldable pub meaning : List ℕ → Setting
 meaning w = lookup (modeWords ++ boundWords ++ flagWords) (numberWord w) w
-
--- what each case of the enum stands for
-abbrev pub numberIn : OptionU32 → Option ℕ
-numberIn (Some n) = some n
-numberIn None = none

@@ -2,7 +2,8 @@
 ghost use mathlib.Core.Path.{_≡_};
 ghost use mathlib.Core.List.{_++_};
 ghost use Prim.Native.Nat.{_<_};
-ghost use Rattle.plan_words.specs.Word.{boundWords, flagWords, lookup, numberWord, meaning, number, valueAfter, numberIn};
+ghost use Rattle.plan_words.specs.Word.{boundWords, flagWords, lookup, numberWord, meaning, number, valueAfter};
+ghost use Rattle.plan_words.specs.Options.{numberIn};
 ghost use Rattle.plan_words.specs.Line.{keyOf, headerWith, bancWith, withSetting, defaults, isGiven, refused, wordsOf, finished};
 ghost use Rattle.plan_words.specs.Key.{KeyIs};
 use header::FrameHeader;

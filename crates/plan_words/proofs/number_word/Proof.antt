@@ -1,7 +1,8 @@
 -- `plan_words::number_word` meets its contract.
 use mathlib.Core.Path.{sym, ap, _∙_}
 use Rattle.plan_text.specs.Quoted.{bytes, codes}
-use Rattle.plan_words.specs.Word.{numberWord, numberIn}
+use Rattle.plan_words.specs.Word.{numberWord}
+use Rattle.plan_words.specs.Options.{numberIn}
 use borrow.Author.Needs.{needs}
 use Rattle.plan_words.proofs.number_word.Statement.{statement}
 use Rattle.plan_words.proofs.number_word.Tie as tie
