@@ -11,12 +11,13 @@ use lib.Dec.{leb}
 use lib.Ieee.{Float}
 use lib.ListN.{length, length-set, List·getD-eq-default}
 use lib.Seq.{getD-set-same, getD-set-other}
+use Rattle.tables.specs.Sum.{sumBelow}
 use Rattle.allocation_rounds.specs.declared.Candidate.{Candidate}
 use Rattle.allocation_rounds.specs.declared.Candidate.the-variants.{Nobody, Field}
 use Rattle.allocation_rounds.specs.declared.Run.{Run}
 use Rattle.allocation_rounds.specs.Rounds.{Rules, price, placeIn, closedIn, waits, candidate, closeAt, raiseAt, taken, turn, round, repeated, rounds, room, ended}
 use Rattle.allocation_rounds.specs.Promises.{Over}
-use Rattle.allocation_rounds.proofs.Fields.{sum, one-differs}
+use Rattle.allocation_rounds.proofs.Fields.{one-differs}
 use Rattle.allocation_rounds.proofs.Scan.{PickedIn, picked-open, candidate-is, nobody}
 
 -- ---- the candidate's turn
@@ -63,7 +64,7 @@ roomIn R s = room R (s .places) (s .closed) (R .fields)
 abbrev part : Rules → List ℕ → List Bool → ℕ → ℕ
 part R places closed f = cond (waits R places closed f) (R .top f - placeIn places f) 0
 
-room-sum : (R : Rules) (places : List ℕ) (closed : List Bool) (n : ℕ) → room R places closed n ≡ sum (part R places closed) n
+room-sum : (R : Rules) (places : List ℕ) (closed : List Bool) (n : ℕ) → room R places closed n ≡ sumBelow n (part R places closed)
 unfolding room
 room-sum R places closed zero = refl
 room-sum R places closed (suc n) = ap (λ (k : ℕ). k + part R places closed n) (room-sum R places closed n)

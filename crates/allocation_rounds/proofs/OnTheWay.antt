@@ -7,16 +7,17 @@ use Prim.Native.Nat.{ℕ, zero, suc, _+_, _≤_, _<_}
 use native.Mathlib.Omega.{arith}
 use lib.Ieee.{Float}
 use lib.ListN.{length, replicate, length-set, getD-replicate}
+use Rattle.tables.specs.Sum.{sumBelow}
 use Rattle.allocation_rounds.specs.declared.Run.{Run}
 use Rattle.allocation_rounds.specs.Rounds.{Rules, price, placeIn, closedIn, raiseAt, closeAt, round, ended, started}
 use Rattle.allocation_rounds.specs.Promises.{charged, Counting, Over, Accounted, Spent}
-use Rattle.allocation_rounds.proofs.Fields.{either, sum, one-differs}
+use Rattle.allocation_rounds.proofs.Fields.{either, one-differs}
 use Rattle.allocation_rounds.proofs.Scan.{PickedIn, picked-open, closed-below}
 use Rattle.allocation_rounds.proofs.Ending.{cost, raise-here, raise-else, close-else, over, round-keeps, ended-keeps}
 
 -- ---- charges
 
-charged-sum : (R : Rules) (places : List ℕ) (n : ℕ) → charged R places n ≡ sum (λ f. R .charge f (placeIn places f)) n
+charged-sum : (R : Rules) (places : List ℕ) (n : ℕ) → charged R places n ≡ sumBelow n (λ f. R .charge f (placeIn places f))
 unfolding charged
 charged-sum R places zero = refl
 charged-sum R places (suc n) = ap (λ (k : ℕ). k + R .charge n (placeIn places n)) (charged-sum R places n)

@@ -1,4 +1,5 @@
 -- What `finish` keeps of each field beside the state, so that a round finds it in two lists: whether the field waits, and its ratio at its place.
+-- For the contracts of private functions alone: nothing that a caller has to believe stands here.
 use Prim.Native.Nat.{ℕ, zero, suc, _<_}
 use mathlib.Core.Path.{_≡_}
 use mathlib.Core.Bool.{Bool, true, false, cond}

@@ -4,7 +4,7 @@ use mathlib.Core.Path.{_≡_, refl, sym, ap, ap₂, _∙_, subst}
 use mathlib.Core.Bool.{Bool, true, false, cond, _&&_, and-false}
 use mathlib.Core.List.{List, [], _∷_}
 use mathlib.Core.Option.{none, some, Option·none-ne-some, Option·some-injective}
-use Prim.Native.Nat.{ℕ, zero, suc, _+_, _*_, _/_, _%_, _^_, _≤_, _<_}
+use Prim.Native.Nat.{ℕ, _*_, _%_, _^_, _≤_, _<_}
 use native.Mathlib.Nat.{lt-of-lt-of-le, lt-of-le-of-lt, lt-trans, le-trans, not-suc-le-zero, one-mul, mod-eq-of-lt}
 use native.Mathlib.Decide.{decLt}
 use native.Mathlib.Omega.{arith}
@@ -16,13 +16,14 @@ use Rattle.tables.proofs.Listed.{tabulated}
 use Rattle.bitalloc.specs.Storage.{rowOf16}
 use Rattle.bitalloc.specs.Changes.{storedAB, storedCD, storedLsf, widthBy, WidthIs}
 use Rattle.tables.specs.Search.{entryAt}
+use Rattle.tables.specs.Sum.{sumBelow}
 use Rattle.tables.proofs.Rule.{first, second, allBelow, below, all, all-at, ordered, ordered-at}
 use Rattle.tables.proofs.Search.{there, past, place-found, place-missing, at-place, none-passes}
 use Rattle.bitalloc.specs.declared.BitAllocTable.{BitAllocTable}
 use Rattle.bitalloc.specs.declared.BitAllocTable.the-variants.{B2a, B2b, B2c, B2d, B1Lsf}
 use Rattle.bitalloc.specs.declared.OptionU32.the-variants.{Some, None}
 use Rattle.bitalloc.specs.Options.{numberIn}
-use Rattle.bitalloc.specs.Tables.{Range, RowRule, NbalIs, StepsAre, AllocationIndexIs, ranges, rangeOf, holds, widthIn, rowIn, nbalOf, rowOf, sblimitOf, nbalSum, sumBelow, stepsAt, indexOf}
+use Rattle.bitalloc.specs.Tables.{Range, RowRule, NbalIs, StepsAre, AllocationIndexIs, ranges, rangeOf, holds, widthIn, rowIn, nbalOf, rowOf, sblimitOf, nbalSum, stepsAt, indexOf}
 
 -- ---- the rule
 

@@ -1,5 +1,5 @@
 -- The possible quantizations per subband: Tables 3-B.2a to 3-B.2d of ISO/IEC 11172-3 and Table B.1 of ISO/IEC 13818-3.
-use Prim.Native.Nat.{ℕ, zero, suc, _+_, _^_, _≤_, _<_}
+use Prim.Native.Nat.{ℕ, _^_, _≤_, _<_}
 use mathlib.Core.Path.{_≡_}
 use mathlib.Core.Bool.{Bool, _&&_}
 use mathlib.Core.List.{List, [], _∷_}
@@ -124,10 +124,6 @@ nbalSum B2b = 94
 nbalSum B2c = 26
 nbalSum B2d = 38
 nbalSum B1Lsf = 75
-
-abbrev pub sumBelow : ℕ → (ℕ → ℕ) → ℕ
-sumBelow zero f = 0
-sumBelow (suc n) f = sumBelow n f + f n
 
 -- ---- what the functions promise
 

@@ -1,4 +1,5 @@
 pub mod Answers
 pub mod Arguments
 pub mod Replies
+pub mod Bounds
 pub mod Version

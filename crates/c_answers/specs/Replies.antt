@@ -1,7 +1,6 @@
 -- What each function replies to arguments that mean something, over the definitions that the function which it wraps is proved equal to.
 -- Beside a number that is not 0 the definitions have the refused record's values.
 use Prim.Native.Nat.{ℕ, _*_, _/_, _%_}
-use mathlib.Core.Path.{_≡_}
 use mathlib.Core.Bool.{false}
 use mathlib.Core.List.{List, [], _∷_}
 use mathlib.Core.Option.{Option, none, some}
@@ -26,9 +25,7 @@ use Rattle.encoder_samples.specs.declared.Triplet.{Triplet}
 use Rattle.encoder_samples.specs.Entries.{sampleCode, tripletAnswer}
 use Rattle.slots.specs.Slots.{rowsOf}
 use Rattle.encoder_bit_budget.specs.declared.FixedBitBudget.{FixedBitBudget}
-use Rattle.encoder_bit_budget.specs.declared.Budget.{Budget}
-use Rattle.encoder_bit_budget.specs.declared.Budget.the-variants.{Ok}
-use Rattle.encoder_bit_budget.specs.Budget.{isSome, budgetOf, availableOf, Bounded}
+use Rattle.encoder_bit_budget.specs.Budget.{isSome, budgetOf, availableOf}
 use Rattle.encoder_bit_budget.specs.Demand.{demandOf}
 use Rattle.encoder_bit_budget.specs.Snr.{snrOf}
 use Rattle.encoder_bit_allocator.specs.declared.Allocation.{Allocation}
@@ -51,10 +48,6 @@ tableSelected h = reply (number (tableFound (tableOf h) ∷ [])) (tableOr (table
 
 abbrev pub frameSized : FrameHeader → Reply ℕ
 frameSized h = reply (frameSize h .answer) (frameSize h .bytes ∷ [])
-
--- an accepted budget is within the bounds that `fixed_bit_budget` promises
-abbrev pub BoundedIn : Budget → Type 0
-BoundedIn r = (b : FixedBitBudget) → r ≡ Ok b → Bounded b
 
 -- a budget as C has it
 abbrev pub budgetValues : FixedBitBudget → List ℕ

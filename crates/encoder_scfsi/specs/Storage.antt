@@ -1,4 +1,5 @@
 -- How the code keeps the rows of Table C.4: in the table's order and without their classes, seven numbers each.
+-- For the contracts of private functions alone: nothing that a caller has to believe stands here.
 use Prim.Native.Nat.{ℕ}
 use mathlib.Core.List.{List, [], _∷_, map}
 use Rattle.encoder_scfsi.specs.TableC4.{Prescribed, tableC4}

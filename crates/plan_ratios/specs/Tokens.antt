@@ -19,10 +19,6 @@ isHash b = eqb b (code "#")
 abbrev pub isBlank : ℕ → Bool
 isBlank b = eqb b (code " ") || eqb b (code "\t") || eqb b (code "\r")
 
--- what ends a token
-abbrev pub isEnd : ℕ → Bool
-isEnd b = endsLine b || isHash b || isBlank b
-
 -- the pieces that are not empty
 abbrev pub filled : List (List ℕ) → List (List ℕ)
 filled [] = []

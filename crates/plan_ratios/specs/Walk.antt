@@ -2,13 +2,17 @@
 -- For the contracts of private functions alone: nothing that a caller has to believe stands here.
 use Prim.Native.Nat.{ℕ, suc, _+_, _≤_, _<_}
 use mathlib.Core.Path.{_≡_}
-use mathlib.Core.Bool.{false, cond}
+use mathlib.Core.Bool.{Bool, false, cond, _||_}
 use mathlib.Core.List.{List, [], _∷_}
 use lib.ListN.{length, getD, drop}
 use Rattle.plan_text.specs.Bytes.{reach}
 use Rattle.plan_ratios.specs.declared.Gap.{Gap}
-use Rattle.plan_ratios.specs.Tokens.{endsLine, isHash, isEnd, tokensFrom}
+use Rattle.plan_ratios.specs.Tokens.{endsLine, isHash, isBlank, tokensFrom}
 use Rattle.plan_ratios.specs.Ratios.{wanted}
+
+-- what ends a token
+abbrev pub isEnd : ℕ → Bool
+isEnd b = endsLine b || isHash b || isBlank b
 
 -- how far a gap goes: to the end of a comment's line, or over one byte
 abbrev pub gap : List ℕ → ℕ

@@ -1,7 +1,6 @@
 // The lines that stand alone where the words or the ratios cannot be read.
 ghost use mathlib.Core.Path.{_≡_};
 ghost use mathlib.Core.List.{_++_};
-ghost use Prim.Native.Nat.{min};
 ghost use Rattle.plan_text.specs.Quoted.{text};
 ghost use Rattle.text_line.specs.Line.{textOf, cut};
 ghost use Rattle.planner.specs.Notes.{excerpt, unknownText, twiceText, onLine, cannotReadText, tooManyText, tooFewText, longWordsLine, longInputLine};
@@ -24,17 +23,10 @@ pub fn twice_word(words: &[u8], at: usize, end: usize) -> Line
 fn with_excerpt(line: Line, words: &[u8], at: usize, end: usize) -> Line
     ensures { λ r. ⌜ textOf r ≡ cut (textOf line ++ excerpt (now (words .entry)) at end) ⌝ }
 {
-    let last = least(end, words.len());
-    let start = least(at, last);
-    let stop = start + least(last - start, 80);
+    let last = text_line::least(end, words.len());
+    let start = text_line::least(at, last);
+    let stop = start + text_line::least(last - start, 80);
     line.text(&words[start..stop])
-}
-
-// The smaller of two.
-fn least(a: usize, b: usize) -> usize
-    ensures { λ r. ⌜ r ≡ min a b ⌝ }
-{
-    if a < b { a } else { b }
 }
 
 pub fn no_sample_rate() -> Line

@@ -180,7 +180,7 @@ fn copy(from: &[u8], n: usize, to: &mut [u8], at: usize)
 }
 
 // The smaller of two.
-fn least(a: usize, b: usize) -> usize
+pub fn least(a: usize, b: usize) -> usize
     ensures { λ r. ⌜ r ≡ min a b ⌝ }
 {
     if a < b { a } else { b }

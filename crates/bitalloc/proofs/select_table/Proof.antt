@@ -32,18 +32,22 @@ enum-told c = search needs
 
 returns-3 : tie.Need-returns-3
 returns-3 c =
-    let b = c .before .before .before in
-    let e = sym (c .before .before .bitrate-per-channel-kbps .ensures) ∙ ap numberIn (c .enum-told .given .1) in
-    sym (of-rate _ (b .before .before .if1 .left) (sym (b .before .is-free-format .ensures) ∙ b .if2 .left) none e ∙ no-kbps _)
+    let rate = c .before .before in
+    let unfree = rate .before in
+    let missing = sym (rate .bitrate-per-channel-kbps .ensures) ∙ ap numberIn (c .enum-told .given .1) in
+    sym
+    (of-rate _ (unfree .before .before .if1 .left) (sym (unfree .before .is-free-format .ensures) ∙ unfree .if2 .left) none missing ∙ no-kbps _)
 
 table-for-requires : tie.Need-table-for-requires
 table-for-requires c κs = search needs
 
 returns-4 : tie.Need-returns-4
 returns-4 c =
-    let b = c .before .before .before .before .before in
-    let e = sym (c .before .before .before .before .bitrate-per-channel-kbps .ensures) ∙ ap numberIn (c .before .before .per-channel .given .1) in
-    c .table-for .ensures ∙ sym (of-rate _ (b .before .before .if1 .left) (sym (b .before .is-free-format .ensures) ∙ b .if2 .left) _ e)
+    let rate = c .before .before .before .before in
+    let unfree = rate .before in
+    let there = sym (rate .bitrate-per-channel-kbps .ensures) ∙ ap numberIn (c .before .before .per-channel .given .1) in
+    c .table-for .ensures
+    ∙ sym (of-rate _ (unfree .before .before .if1 .left) (sym (unfree .before .is-free-format .ensures) ∙ unfree .if2 .left) _ there)
 
 pub select-table-spec : {M : Type 1} → statement M
 select-table-spec =

@@ -8,6 +8,13 @@ use Rattle.plan_io.proofs.WordLaws.{not-there, word-there}
 use Rattle.plan_io.proofs.read_word.Statement.{statement}
 use Rattle.plan_io.proofs.read_word.Tie as tie
 
+-- the places that the needs look back to: the start, and the word read
+abbrev at-start : tie.After-arg → tie.Start
+at-start arg = arg .before .before .before
+
+abbrev at-arg : tie.After-errno → tie.After-arg
+at-arg errno = errno .before .before .before
+
 sub-arg : tie.Need-sub-arg
 sub-arg c = search needs
 
@@ -28,11 +35,12 @@ same-length c = search needs
 
 returns : tie.Need-returns
 returns c =
-    let s = c .before .before .before .before .before .before .before in
-    let old = s .args .words .now in
-    let at = s .args .at in
-    let part = c .before .before .before .before .arg .last .1 .0 in
-    not-there old (putMid at (length old - at) old part) at (s .pre) (search needs) (take-put at (length old - at) old part (s .pre))
+    let arg = at-arg (c .before) in
+    let start = at-start arg in
+    let old = start .args .words .now in
+    let at = start .args .at in
+    let part = arg .arg .last .1 .0 in
+    not-there old (putMid at (length old - at) old part) at (start .pre) (search needs) (take-put at (length old - at) old part (start .pre))
 
 add-end-word : tie.Need-add-end-word
 add-end-word c = search needs
@@ -45,15 +53,15 @@ same-length-2 c = search needs
 
 returns-2 : tie.Need-returns-2
 returns-2 c =
-    let p = c .before .before in
-    let s = p .before .before .before .before .before .before .before .before .before in
-    let old = s .args .words .now in
-    let at = s .args .at in
-    let a = p .before .before .before .before .before .before in
-    let part = a .arg .last .1 .0 in
+    let ended = c .before .before in
+    let arg = at-arg (ended .before .before .before) in
+    let start = at-start arg in
+    let old = start .args .words .now in
+    let at = start .args .at in
+    let part = arg .arg .last .1 .0 in
     let mid = putMid at (length old - at) old part in
-    let l : length mid ≡ length old = search needs in
-    word-there old mid _ at (a .arg .result) _ (s .pre) l (take-put at (length old - at) old part (s .pre)) (p .end-word .ensures)
+    let long : length mid ≡ length old = search needs in
+    word-there old mid _ at (arg .arg .result) _ (start .pre) long (take-put at (length old - at) old part (start .pre)) (ended .end-word .ensures)
 
 pub read-word-spec : {M : Type 1} → statement M
 read-word-spec =

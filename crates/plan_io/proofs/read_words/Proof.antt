@@ -26,7 +26,10 @@ loop-less : tie.Need-loop-less Inv-loop μ-loop
 loop-less c = search needs
 
 loop-again : tie.Need-loop-again Inv-loop μ-loop
-loop-again c = (one-more (c .before .before .before .before .before .loop .inv .0) (c .before .before .read-word .ensures), search needs)
+loop-again c =
+    let word = c .before .before in
+    let head = word .before .before .before in
+    (one-more (head .loop .inv .0) (word .read-word .ensures), search needs)
 
 same-length : tie.Need-same-length Inv-loop μ-loop
 same-length c = search needs

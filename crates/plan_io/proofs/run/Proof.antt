@@ -6,6 +6,13 @@ use Rattle.plan_io.proofs.WrittenLaws.{all-written}
 use Rattle.plan_io.proofs.run.Statement.{statement}
 use Rattle.plan_io.proofs.run.Tie as tie
 
+-- the places that the needs look back to: the words read, and the ratios read
+abbrev at-words : tie.After-words3 → tie.After-read-words
+at-words c = c .before .before .before
+
+abbrev at-ratios : tie.After-input3 → tie.After-read-ratios
+at-ratios c = c .before .before .before
+
 buffer-requires : tie.Need-buffer-requires
 buffer-requires c κs = search needs
 
@@ -26,8 +33,8 @@ array-share-prefix-words c = search needs
 
 slice-aggregate-read-ratios : tie.Need-slice-aggregate-read-ratios
 slice-aggregate-read-ratios c =
-    let r = c .before .before .before in
-    sym (length-take-le _ (r .read-words .last .1 .0) (search needs))
+    let words = at-words c .read-words in
+    sym (length-take-le _ (words .last .1 .0) (search needs))
 
 slice-aggregate-read-ratios-2 : tie.Need-slice-aggregate-read-ratios-2
 slice-aggregate-read-ratios-2 c = search needs
@@ -40,26 +47,26 @@ array-share-prefix-words-2 c = search needs
 
 slice-aggregate-write-plan : tie.Need-slice-aggregate-write-plan
 slice-aggregate-write-plan c =
-    let r = c .before .before .before .before .before .before .before in
-    sym (length-take-le _ (r .read-words .last .1 .0) (search needs))
+    let ratios = c .before .before in
+    let words = at-words (ratios .before .before) .read-words in
+    sym (length-take-le _ (words .last .1 .0) (search needs))
 
 array-share-prefix-input : tie.Need-array-share-prefix-input
 array-share-prefix-input c = search needs
 
 slice-aggregate-write-plan-2 : tie.Need-slice-aggregate-write-plan-2
 slice-aggregate-write-plan-2 c =
-    let r = c .before .before .before in
-    sym (length-take-le _ (r .read-ratios .last .1 .0) (search needs))
+    let ratios = at-ratios c .read-ratios in
+    sym (length-take-le _ (ratios .last .1 .0) (search needs))
 
 write-plan-requires : tie.Need-write-plan-requires
 write-plan-requires c κs = search needs
 
 returns : tie.Need-returns
 returns c =
-    let i = c .before .before .before .before in
-    let w = i .before .before .before .before .before in
-    all-written (w .read-words .last .1 .0) _ (i .read-ratios .last .1 .0) (w .read-words .result) (i .read-ratios .result) _ (i .read-ratios .ensures)
-    (c .write-plan .ensures)
+    let ratios = at-ratios (c .before) .read-ratios in
+    let words = at-words (at-ratios (c .before) .before .before) .read-words in
+    all-written (words .last .1 .0) _ (ratios .last .1 .0) (words .result) (ratios .result) _ (ratios .ensures) (c .write-plan .ensures)
 
 pub run-spec : {M : Type 1} → statement M
 run-spec =

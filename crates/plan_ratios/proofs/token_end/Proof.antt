@@ -6,7 +6,7 @@ use native.Mathlib.Omega.{arith}
 use lib.ListN.{length, drop}
 use Rattle.plan_text.specs.Bytes.{reach}
 use Rattle.plan_text.proofs.ByteLaws.{reach-at, reach-past, reach-end}
-use Rattle.plan_ratios.specs.Tokens.{isEnd}
+use Rattle.plan_ratios.specs.Walk.{isEnd}
 use Rattle.plan_ratios.proofs.token_end.Statement.{statement}
 use Rattle.plan_ratios.proofs.token_end.Tie as tie
 

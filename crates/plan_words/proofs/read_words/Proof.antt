@@ -17,6 +17,19 @@ Inv-loop words settings₀ at₀ settings at = wordsOf words ≡ settled setting
 abbrev μ-loop : tie.MeasureT-loop
 μ-loop words settings₀ at₀ settings at = length words - at
 
+-- the places that the needs look back to: the loop's head, the word's end, its key, whether that was given
+abbrev at-head : tie.After-find-byte Inv-loop μ-loop → tie.At-loop Inv-loop μ-loop
+at-head found = found .before .before
+
+abbrev at-end : tie.After-key-of Inv-loop μ-loop → tie.After-find-byte Inv-loop μ-loop
+at-end key = key .before .before .before
+
+abbrev at-key : tie.After-is-given Inv-loop μ-loop → tie.After-key-of Inv-loop μ-loop
+at-key given = given .before .before
+
+abbrev at-given : tie.After-with-setting Inv-loop μ-loop → tie.After-is-given Inv-loop μ-loop
+at-given set = set .before .before
+
 defaults-requires : tie.Need-defaults-requires Inv-loop μ-loop
 defaults-requires c κs = search needs
 
@@ -35,8 +48,7 @@ part-read-word-start c = search needs
 
 part-read-word-end : tie.Need-part-read-word-end Inv-loop μ-loop
 part-read-word-end c =
-    let l = c .before .before in
-    found-most isEnd _ (l .loop .at) _ (le-of-lt (c .before .loop-test .taken)) (c .find-byte .ensures)
+    found-most isEnd _ (at-head c .loop .at) _ (le-of-lt (c .before .loop-test .taken)) (c .find-byte .ensures)
 
 read-word-requires : tie.Need-read-word-requires Inv-loop μ-loop
 read-word-requires c κs = search needs
@@ -49,14 +61,12 @@ refused-requires c κs = search needs
 
 returns : tie.Need-returns Inv-loop μ-loop
 returns c =
-    let k = c .before .before in
-    let w = k .before in
-    let b = w .before .before in
-    let l = b .before .before in
+    let key = c .before .before in
+    let end = at-end key in
     c .refused .ensures
     ∙ sym
-    (at-unknown _ _ _ _ (b .before .loop-test .taken) (b .find-byte .ensures) (l .loop .inv) _ (w .read-word .ensures) _ (k .key-of .ensures .whole)
-    (c .before .if1 .taken))
+    (at-unknown _ _ _ _ (end .before .loop-test .taken) (end .find-byte .ensures) (at-head end .loop .inv) _ (key .before .read-word .ensures) _
+    (key .key-of .ensures .whole) (c .before .if1 .taken))
 
 is-given-requires : tie.Need-is-given-requires Inv-loop μ-loop
 is-given-requires c κs = search needs
@@ -66,38 +76,35 @@ refused-requires-2 c κs = search needs
 
 returns-2 : tie.Need-returns-2 Inv-loop μ-loop
 returns-2 c =
-    let g = c .before .before in
-    let k = g .before .before in
-    let w = k .before in
-    let b = w .before .before in
-    let l = b .before .before in
+    let given = c .before .before in
+    let key = at-key given in
+    let end = at-end key in
     c .refused2 .ensures
     ∙ sym
-    (at-twice _ _ _ _ (b .before .loop-test .taken) (b .find-byte .ensures) (l .loop .inv) _ (w .read-word .ensures) _ (k .key-of .ensures .whole)
-    (g .before .if1 .left) (sym (g .is-given .ensures) ∙ c .before .if2 .taken))
+    (at-twice _ _ _ _ (end .before .loop-test .taken) (end .find-byte .ensures) (at-head end .loop .inv) _ (key .before .read-word .ensures) _
+    (key .key-of .ensures .whole) (given .before .if1 .left) (sym (given .is-given .ensures) ∙ c .before .if2 .taken))
 
 with-setting-requires : tie.Need-with-setting-requires Inv-loop μ-loop
 with-setting-requires c κs =
-    let k = c .before .before .before in
-    omega (arith, k .key-of .ensures, c .before .before .if1 .left)
+    let given = c .before in
+    omega (arith, at-key given .key-of .ensures, given .before .if1 .left)
 
 past-requires : tie.Need-past-requires Inv-loop μ-loop
 past-requires c κs = search needs
 
 loop-less : tie.Need-loop-less Inv-loop μ-loop
 loop-less c =
-    let b = c .before .before .before .before .before .before .before .before in
-    omega (arith, c .past .ensures, b .find-byte .ensures, b .before .loop-test .taken)
+    let end = at-end (at-key (at-given (c .before))) in
+    omega (arith, c .past .ensures, end .find-byte .ensures, end .before .loop-test .taken)
 
 loop-again : tie.Need-loop-again Inv-loop μ-loop
 loop-again c =
-    let g = c .before .before .before in
-    let k = g .before .before in
-    let w = k .before in
-    let b = w .before .before in
-    let l = b .before .before in
-    at-once _ _ _ _ (b .before .loop-test .taken) (b .find-byte .ensures) (l .loop .inv) _ (w .read-word .ensures) _ (k .key-of .ensures .whole)
-    (g .before .if1 .left) _ _ (c .past .ensures) (c .before .with-setting .ensures) (sym (g .is-given .ensures) ∙ c .before .before .if2 .left)
+    let given = at-given (c .before) in
+    let key = at-key given in
+    let end = at-end key in
+    at-once _ _ _ _ (end .before .loop-test .taken) (end .find-byte .ensures) (at-head end .loop .inv) _ (key .before .read-word .ensures) _
+    (key .key-of .ensures .whole) (given .before .if1 .left) _ _ (c .past .ensures) (c .before .with-setting .ensures)
+    (sym (given .is-given .ensures) ∙ c .before .before .if2 .left)
 
 finished-requires : tie.Need-finished-requires Inv-loop μ-loop
 finished-requires c κs = search needs

@@ -33,8 +33,9 @@ as-index-requires-2 c κs = search needs
 
 returns : tie.Need-returns
 returns c =
-    let s = c .before .before .before .before .before .before .before .before in
-    selection-listed (s .args .selection) _ _ _ (c .before .before .code .ensures .whole) (c .before .as-index .ensures .whole) (c .as-index2 .ensures .whole)
+    let code = c .before .before in
+    let start = code .before .before .before .before .before .before in
+    selection-listed (start .args .selection) _ _ _ (code .code .ensures .whole) (c .before .as-index .ensures .whole) (c .as-index2 .ensures .whole)
 
 pub selection-values-spec : {M : Type 1} → statement M
 selection-values-spec =

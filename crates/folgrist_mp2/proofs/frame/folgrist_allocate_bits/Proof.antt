@@ -11,6 +11,19 @@ use Rattle.c_answers.specs.Replies.{allocationBits}
 use Rattle.folgrist_mp2.proofs.frame.folgrist_allocate_bits.Statement.{statement}
 use Rattle.folgrist_mp2.proofs.frame.folgrist_allocate_bits.Tie as tie
 
+-- the places that the needs look back to: the start, the header told, the values that are written, the first of them written
+abbrev at-start : tie.After-known-told2 → tie.Start
+at-start told = told .before .before .before .before .before .before .before
+
+abbrev at-told : tie.After-allocation-bits → tie.After-known-told2
+at-told bits = bits .before .before .before .before
+
+abbrev at-bits : tie.After-put-arg → tie.After-allocation-bits
+at-bits c = c .before .before
+
+abbrev at-put : tie.After-put-arg2 → tie.After-put
+at-put c = c .before .before .before .before
+
 header-given-requires : tie.Need-header-given-requires
 header-given-requires c κs = search needs
 
@@ -37,11 +50,12 @@ slice-aggregate-put c = search needs
 
 put-requires : tie.Need-put-requires
 put-requires c κs =
-    let k = c .before .before .before .before .before .before in
-    let s = k .before .before .before .before .before .before .before in
-    let h = three-long (length (s .args .smr-db .now)) 64 (length (s .args .steps .now)) 64 (length (s .args .out .now)) 4
-        (room _ _ _ (header-meant _ _ _ (k .before .before .before .header-given .ensures) (k .before .given2 .given .1))) in
-    let n : length (c .before .before .before .steps-by-slot .result) ≡ 64 = search needs in
+    let bits = at-bits c in
+    let told = at-told bits in
+    let args = at-start told .args in
+    let meant = header-meant _ _ _ (told .before .before .before .header-given .ensures) (told .before .given2 .given .1) in
+    let long = three-long (length (args .smr-db .now)) 64 (length (args .steps .now)) 64 (length (args .out .now)) 4 (room _ _ _ meant) in
+    let slots : length (bits .before .steps-by-slot .result) ≡ 64 = search needs in
     omega arith
 
 slice-aggregate-put-2 : tie.Need-slice-aggregate-put-2
@@ -49,18 +63,17 @@ slice-aggregate-put-2 c = search needs
 
 put-requires-2 : tie.Need-put-requires-2
 put-requires-2 c κs =
-    let b = c .before .before .before .before .before .before .before in
-    let k = b .before .before .before .before in
-    let s = k .before .before .before .before .before .before .before in
-    rw (b .allocation-bits .ensures) (three-long (length (s .args .smr-db .now)) 64 (length (s .args .steps .now)) 64 (length (s .args .out .now)) 4
-    (room _ _ _ (header-meant _ _ _ (k .before .before .before .header-given .ensures) (k .before .given2 .given .1))) .2)
+    let bits = at-bits (at-put c .before) in
+    let told = at-told bits in
+    let args = at-start told .args in
+    let meant = header-meant _ _ _ (told .before .before .before .header-given .ensures) (told .before .given2 .given .1) in
+    rw (bits .allocation-bits .ensures)
+    (three-long (length (args .smr-db .now)) 64 (length (args .steps .now)) 64 (length (args .out .now)) 4 (room _ _ _ meant) .2)
 
 returns : tie.Need-returns
 returns c =
-    (
-      refused-by _ _ _ _ (header-refused _ _ _ (c .before .before .before .header-given .ensures) (c .before .given .given .1)),
-      refused-by _ _ _ _ (header-refused _ _ _ (c .before .before .before .header-given .ensures) (c .before .given .given .1))
-    )
+    let refused = header-refused _ _ _ (c .before .before .before .header-given .ensures) (c .before .given .given .1) in
+    (refused-by _ _ _ _ refused, refused-by _ _ _ _ refused)
 
 same-length : tie.Need-same-length
 same-length c = search needs
@@ -70,22 +83,25 @@ same-length-2 c = search needs
 
 returns-2 : tie.Need-returns-2
 returns-2 c =
-    let p2 = c .before .before in
-    let p1 = p2 .before .before .before .before .before in
-    let b = p1 .before .before .before in
-    let t = b .before in
-    let a = t .before in
-    let k = a .before .before in
-    let s = k .before .before .before .before .before .before .before in
-    let n = reply (a .allocate-bits .result .number) in
-    let h = k .before .given2 .given .0 .0 in
-    let w = a .allocate-bits .ensures .whole ∙ ap (λ smr. allocationOf h smr (s .args .banc)) (a .before .rows .ensures) in
-    let m = header-meant _ _ _ (k .before .before .before .header-given .ensures) (k .before .given2 .given .1) in
+    let second = c .before .before in
+    let first = at-put (second .before) in
+    let bits = at-bits (first .before) in
+    let steps = bits .before in
+    let allocated = steps .before in
+    let told = at-told bits in
+    let header = told .before .given2 .given .0 .0 in
+    let replied = reply (allocated .allocate-bits .result .number) in
+    let whole =
+        allocated .allocate-bits .ensures .whole
+        ∙ ap (λ smr. allocationOf header smr (at-start told .args .banc)) (allocated .before .rows .ensures) in
+    let meant = header-meant _ _ _ (told .before .before .before .header-given .ensures) (told .before .given2 .given .1) in
     (
-      meant-by _ _ _ _ _ (t .steps-by-slot .result) _ m (ap n (t .steps-by-slot .ensures) ∙ ap (λ x. reply (x .number) (x .audio .«nb_steps»)) w)
-      (p1 .put .ensures),
-      meant-by _ _ _ _ _ (b .allocation-bits .result) _ m (ap n (b .allocation-bits .ensures) ∙ ap (λ x. reply (x .number) (allocationBits x)) w)
-      (p2 .put2 .ensures)
+      meant-by _ _ _ _ _ (steps .steps-by-slot .result) _ meant
+      (ap replied (steps .steps-by-slot .ensures) ∙ ap (λ x. reply (x .number) (x .audio .«nb_steps»)) whole)
+      (first .put .ensures),
+      meant-by _ _ _ _ _ (bits .allocation-bits .result) _ meant
+      (ap replied (bits .allocation-bits .ensures) ∙ ap (λ x. reply (x .number) (allocationBits x)) whole)
+      (second .put2 .ensures)
     )
 
 pub folgrist-allocate-bits-spec : {M : Type 1} → statement M

@@ -11,6 +11,13 @@ use Rattle.c_answers.specs.Answers.{reply}
 use Rattle.folgrist_mp2.proofs.frame.folgrist_demand_bits.Statement.{statement}
 use Rattle.folgrist_mp2.proofs.frame.folgrist_demand_bits.Tie as tie
 
+-- the places that the needs look back to: the start, and the header told
+abbrev at-start : tie.After-known-told2 → tie.Start
+at-start told = told .before .before .before .before .before .before
+
+abbrev at-told : tie.After-bits → tie.After-known-told2
+at-told bits = bits .before .before .before
+
 header-given-requires : tie.Need-header-given-requires
 header-given-requires c κs = search needs
 
@@ -31,10 +38,10 @@ bits-requires c κs = search needs
 
 slice-write-out : tie.Need-slice-write-out
 slice-write-out c =
-    let k = c .before .before .before in
-    let s = k .before .before .before .before .before .before in
-    let m = header-meant _ _ _ (k .before .before .before .header-given .ensures) (k .before .given2 .given .1) in
-    both-long (length (s .args .smr-db .now)) 64 (length (s .args .out .now)) 1 (room _ _ _ m) .1
+    let told = at-told c in
+    let args = at-start told .args in
+    let meant = header-meant _ _ _ (told .before .before .before .header-given .ensures) (told .before .given2 .given .1) in
+    both-long (length (args .smr-db .now)) 64 (length (args .out .now)) 1 (room _ _ _ meant) .1
 
 refusal-requires : tie.Need-refusal-requires
 refusal-requires c κs = search needs
@@ -47,14 +54,14 @@ same-length c = search needs
 
 returns-2 : tie.Need-returns-2
 returns-2 c =
-    let k = c .before .before .before .before in
-    let d = c .before .before in
-    let s = k .before .before .before .before .before .before in
-    let m = header-meant _ _ _ (k .before .before .before .header-given .ensures) (k .before .given2 .given .1) in
-    one-by _ _ _ _ _ _ m
+    let demand = c .before .before in
+    let told = at-told (c .before) in
+    let args = at-start told .args in
+    let meant = header-meant _ _ _ (told .before .before .before .header-given .ensures) (told .before .given2 .given .1) in
+    one-by _ _ _ _ _ _ meant
     (ap₂ (λ (n bits : ℕ). reply n (bits ∷ [])) (c .refusal .ensures) (c .before .bits .ensures)
-    ∙ ap (λ a. reply (a .answer) (a .bits ∷ [])) (d .demand-bits .ensures .whole ∙ ap (demandOf _) (d .before .rows .ensures)))
-    (both-long (length (s .args .smr-db .now)) 64 (length (s .args .out .now)) 1 (room _ _ _ m) .1)
+    ∙ ap (λ a. reply (a .answer) (a .bits ∷ [])) (demand .demand-bits .ensures .whole ∙ ap (demandOf _) (demand .before .rows .ensures)))
+    (both-long (length (args .smr-db .now)) 64 (length (args .out .now)) 1 (room _ _ _ meant) .1)
 
 pub folgrist-demand-bits-spec : {M : Type 1} → statement M
 folgrist-demand-bits-spec =

@@ -26,8 +26,9 @@ put-samples-requires c κs = search needs
 
 returns : tie.Need-returns
 returns c =
-    let s = c .before .before .before .before .before in
-    part-copied (s .args .samples .now) _ _ 0 12 12 refl (omega arith) refl (c .before .put-samples .ensures)
+    let put = c .before in
+    let start = put .before .before .before .before in
+    part-copied (start .args .samples .now) _ _ 0 12 12 refl (omega arith) refl (put .put-samples .ensures)
 
 pub granule-of-spec : {M : Type 1} → statement M
 granule-of-spec =

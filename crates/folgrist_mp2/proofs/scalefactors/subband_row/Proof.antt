@@ -33,8 +33,10 @@ put-samples-requires c κs = search needs
 
 returns : tie.Need-returns
 returns c =
-    let s = c .before .before .before .before .before in
-    part-copied (s .args .samples .now) _ _ (36 * s .args .sb) (36 * s .args .sb + 36) 36 refl (omega arith) refl (c .before .put-samples .ensures)
+    let put = c .before in
+    let start = put .before .before .before .before in
+    let from = 36 * start .args .sb in
+    part-copied (start .args .samples .now) _ _ from (from + 36) 36 refl (omega arith) refl (put .put-samples .ensures)
 
 pub subband-row-spec : {M : Type 1} → statement M
 subband-row-spec =

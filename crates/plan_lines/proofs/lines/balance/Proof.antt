@@ -38,10 +38,12 @@ returns c = rw (le-leb _ _ (c .before .before .if1 .taken)) (c .text .ensures)
 returns-2 : tie.Need-returns-2
 unfolding balanceText
 returns-2 c =
-    let a = c .before .before .before in
-    let s = c .before .before .before .before .before .before in
-    rw (lt-leb _ _ (a .before .before .if1 .left))
-    (more (textOf (s .args .line)) _ _ (more (textOf (s .args .line)) _ _ (a .text2 .ensures) (c .before .before .number .ensures)) (c .text3 .ensures))
+    let number = c .before .before in
+    let short = number .before in
+    let above = short .before .before in
+    let line = textOf (above .before .args .line) in
+    rw (lt-leb _ _ (above .if1 .left))
+    (more line _ _ (more line _ _ (short .text2 .ensures) (number .number .ensures)) (c .text3 .ensures))
 
 pub balance-spec : {M : Type 1} → statement M
 balance-spec =

@@ -38,10 +38,13 @@ text-requires c κs = search needs
 
 returns : tie.Need-returns
 returns c =
-    let s = c .before .before .before .before .before .before in
+    let stop = c .before .before in
+    let start = stop .before in
+    let last = start .before in
+    let args = last .before .before .args in
     c .text .ensures
-    ∙ ap (λ (u : List ℕ). cut (textOf (s .args .line) ++ u))
-    (excerpt-is (now (s .args .words)) (s .args .at) (s .args .end) _ _ _ (c .before .before .before .before .least .ensures) (c .before .before .before .least2 .ensures) (c .before .before .least3 .ensures))
+    ∙ ap (λ (u : List ℕ). cut (textOf (args .line) ++ u))
+    (excerpt-is (now (args .words)) (args .at) (args .end) _ _ _ (last .least .ensures) (start .least2 .ensures) (stop .least3 .ensures))
 
 pub with-excerpt-spec : {M : Type 1} → statement M
 with-excerpt-spec =

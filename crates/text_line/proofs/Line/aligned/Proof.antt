@@ -11,6 +11,10 @@ use Rattle.text_line.proofs.LineLaws.{columned}
 use Rattle.text_line.proofs.Line.aligned.Statement.{statement}
 use Rattle.text_line.proofs.Line.aligned.Tie as tie
 
+-- the start, from where the spaces stand
+abbrev at-start : tie.After-spaces → tie.Start
+at-start spaced = spaced .before .before .before .before
+
 long : (c : tie.Start) → length (c .args .column .bytes) ≡ 256
 long c = search needs
 
@@ -24,23 +28,25 @@ spaces-requires : tie.Need-spaces-requires
 spaces-requires c κs = search needs
 
 array-share-prefix-bytes : tie.Need-array-share-prefix-bytes
-array-share-prefix-bytes c = let l = long (c .before .before .before .before) in omega arith
+array-share-prefix-bytes c = let whole = long (at-start c) in omega arith
 
 slice-aggregate-text : tie.Need-slice-aggregate-text
 slice-aggregate-text c =
-    let s = c .before .before .before .before .before in
-    let l = long s in
-    sym (length-take-le _ (s .args .column .bytes) (omega arith))
+    let start = at-start (c .before) in
+    let whole = long start in
+    sym (length-take-le _ (start .args .column .bytes) (omega arith))
 
 text-requires : tie.Need-text-requires
 text-requires c κs = search needs
 
 returns : tie.Need-returns
 returns c =
-    let a = c .before .before in
-    let s = a .before .before .before .before in
-    columned (textOf (s .args .self)) _ _ (s .args .column .bytes) (s .args .width) (s .args .column .length) (a .before .before .least .result) (long s) (a .before .before .least .ensures)
-    (a .spaces .ensures ∙ ap (λ (n : ℕ). cut (textOf (s .args .self) ++ spaces n)) (a .before .above .ensures)) (c .text .ensures)
+    let spaced = c .before .before in
+    let least = spaced .before .before .least in
+    let start = at-start spaced in
+    let args = start .args in
+    columned (textOf (args .self)) _ _ (args .column .bytes) (args .width) (args .column .length) (least .result) (long start) (least .ensures)
+    (spaced .spaces .ensures ∙ ap (λ (n : ℕ). cut (textOf (args .self) ++ spaces n)) (spaced .before .above .ensures)) (c .text .ensures)
 
 pub aligned-spec : {M : Type 1} → statement M
 aligned-spec =

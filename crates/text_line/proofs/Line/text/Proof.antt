@@ -9,6 +9,10 @@ use Rattle.text_line.proofs.LineLaws.{pasted}
 use Rattle.text_line.proofs.Line.text.Statement.{statement}
 use Rattle.text_line.proofs.Line.text.Tie as tie
 
+-- the start, from before the bytes are copied
+abbrev at-start : tie.After-bytes2 → tie.Start
+at-start c = c .before .before .before .before .before
+
 long : (c : tie.Start) → length (c .args .self .bytes) ≡ 256
 long c = search needs
 
@@ -26,8 +30,8 @@ slice-aggregate-copy c = search needs
 
 copy-requires : tie.Need-copy-requires
 copy-requires c κs =
-    let s = c .before .before .before .before .before in
-    let l : length (s .args .self .bytes) ≡ 256 = long s in
+    let start = at-start c in
+    let whole : length (start .args .self .bytes) ≡ 256 = long start in
     (omega arith, omega arith)
 
 add-t6 : tie.Need-add-t6
@@ -35,12 +39,15 @@ add-t6 c = search needs
 
 returns : tie.Need-returns
 returns c =
-    let s = c .before .before .before .before .before .before .before in
-    let l : length (s .args .self .bytes) ≡ 256 = long s in
-    let k = c .before .copy .kept in
-    ap (take (c .before .before .before .before .least .result + c .before .before .before .least2 .result)) (c .before .copy .ensures)
-    ∙ pasted (s .args .self .bytes) (now (s .args .added)) (s .args .self .length) (c .before .before .before .before .least .result) (c .before .before .before .least2 .result) l
-    (c .before .before .before .before .least .ensures) (c .before .before .before .least2 .ensures)
+    let copied = c .before in
+    let start = at-start (copied .before) in
+    let args = start .args in
+    let whole : length (args .self .bytes) ≡ 256 = long start in
+    let kept = copied .copy .kept in
+    let room = copied .before .before .least2 in
+    let place = copied .before .before .before .least in
+    ap (take (place .result + room .result)) (copied .copy .ensures)
+    ∙ pasted (args .self .bytes) (now (args .added)) (args .self .length) (place .result) (room .result) whole (place .ensures) (room .ensures)
 
 pub text-spec : {M : Type 1} → statement M
 text-spec =
