@@ -61,7 +61,7 @@ module _ (l : Layout) (smr : List (List Float)) (costs : List ℕ) where
     agrees = record {
       fields = (let n = few l in let e : min fields 64 ≡ fields = omega arith in e) ∙ many;
       top = tops-agree;
-      ratio = λ f p h b. let s = room l smr costs f in
+      mnr = λ f p h b. let s = room l smr costs f in
         let i = in-row f p h (let k : p < min (getD tops f 0) 15 = b in omega arith) in laid .mnr f p i (omega arith);
       charge = λ f p h b. let s = room l smr costs f in let i = in-row f p h b in laid .charge f p i (omega arith)
     }
