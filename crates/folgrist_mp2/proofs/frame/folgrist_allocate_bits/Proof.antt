@@ -5,6 +5,7 @@ use lib.ListN.{length}
 use borrow.Author.Needs.{needs}
 use Rattle.c_answers.proofs.AnswerLaws.{room, three-long, refused-by, meant-by}
 use Rattle.c_answers.proofs.ArgumentLaws.{header-refused, header-meant}
+use Rattle.encoder_bit_budget.specs.Budget.{plain}
 use Rattle.encoder_bit_allocator.specs.Allocation.{allocationOf}
 use Rattle.c_answers.specs.Answers.{reply}
 use Rattle.c_answers.specs.Replies.{allocationBits}
@@ -79,7 +80,7 @@ returns-2 c =
     let s = k .before .before .before .before .before .before .before in
     let n = reply (a .allocate-bits .result .number) in
     let h = k .before .given2 .given .0 .0 in
-    let w = a .allocate-bits .ensures .whole ∙ ap (λ smr. allocationOf h smr (s .args .banc)) (a .before .rows .ensures) in
+    let w = a .allocate-bits .ensures .whole ∙ ap (allocationOf (plain h (s .args .banc))) (a .before .rows .ensures) in
     let m = header-meant _ _ _ (k .before .before .before .header-given .ensures) (k .before .given2 .given .1) in
     (
       meant-by _ _ _ _ _ (t .steps-by-slot .result) _ m (ap n (t .steps-by-slot .ensures) ∙ ap (λ x. reply (x .number) (x .audio .«nb_steps»)) w)
