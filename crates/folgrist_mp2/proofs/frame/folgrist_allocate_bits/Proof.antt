@@ -5,6 +5,7 @@ use lib.ListN.{length}
 use borrow.Author.Needs.{needs}
 use Rattle.c_answers.proofs.AnswerLaws.{room, three-long, refused-by, meant-by}
 use Rattle.c_answers.proofs.ArgumentLaws.{header-refused, header-meant}
+use Rattle.encoder_bit_budget.specs.Budget.{plain}
 use Rattle.encoder_bit_allocator.specs.Allocation.{allocationOf}
 use Rattle.c_answers.specs.Answers.{reply}
 use Rattle.c_answers.specs.Replies.{allocationBits}
@@ -93,7 +94,7 @@ returns-2 c =
     let replied = reply (allocated .allocate-bits .result .number) in
     let whole =
         allocated .allocate-bits .ensures .whole
-        ∙ ap (λ smr. allocationOf header smr (at-start told .args .banc)) (allocated .before .rows .ensures) in
+        ∙ ap (allocationOf (plain header (at-start told .args .banc))) (allocated .before .rows .ensures) in
     let meant = header-meant _ _ _ (told .before .before .before .header-given .ensures) (told .before .given2 .given .1) in
     (
       meant-by _ _ _ _ _ (steps .steps-by-slot .result) _ meant
