@@ -4,7 +4,7 @@ ghost use mathlib.Core.Bool.{cond};
 ghost use Rattle.header.specs.Header.{sizeOf};
 ghost use Rattle.bitalloc.specs.Options.{isSome, tableIn, classIn};
 ghost use Rattle.encoder_samples.specs.Entries.{codedOf};
-ghost use Rattle.encoder_bit_budget.specs.Snr.{ratioIn};
+ghost use Rattle.encoder_bit_budget.specs.Snr.{snrIn};
 ghost use Rattle.c_answers.specs.Replies.{tableOr, limitsOf, allocationBits, classOr, figuresOf, snrOr, tripletValues, selectionValues};
 use bitalloc::{BitAllocTable, OptionClass, OptionTable};
 use encoder_bit_allocator::Allocation;
@@ -108,7 +108,7 @@ pub fn figures(found: OptionClass) -> [u32; 4]
 
 // 0 with a signal-to-noise ratio, 5 without.
 pub fn snr_number(found: OptionF64) -> u32
-    ensures { λ r. ⌜ r ≡ cond (isSome (ratioIn found)) 0 5 ⌝ }
+    ensures { λ r. ⌜ r ≡ cond (isSome (snrIn found)) 0 5 ⌝ }
 {
     match found {
         OptionF64::Some(_) => 0,
@@ -118,7 +118,7 @@ pub fn snr_number(found: OptionF64) -> u32
 
 // The signal-to-noise ratio in dB, 0 without.
 pub fn snr_db(found: OptionF64) -> f64
-    ensures { λ r. ⌜ r ≡ snrOr (ratioIn found) ⌝ }
+    ensures { λ r. ⌜ r ≡ snrOr (snrIn found) ⌝ }
 {
     match found {
         OptionF64::Some(db) => db,
