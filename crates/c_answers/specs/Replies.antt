@@ -73,13 +73,13 @@ stepsAllocated smr banc h =
     let a = allocationOf (plain h banc) (smrRows smr) in
     reply (a .number) (a .audio .«nb_steps»)
 
-abbrev pub allocationBits : Allocation → List ℕ
-allocationBits a = a .left ∷ a .cb ∷ a .fixed ∷ a .banc ∷ []
+abbrev pub allocationValues : Allocation → List ℕ
+allocationValues a = a .left ∷ a .cb ∷ a .fixed ∷ a .banc ∷ []
 
 abbrev pub bitsAllocated : List Float → ℕ → FrameHeader → Reply ℕ
 bitsAllocated smr banc h =
     let a = allocationOf (plain h banc) (smrRows smr) in
-    reply (a .number) (allocationBits a)
+    reply (a .number) (allocationValues a)
 
 -- ---- of a table
 

@@ -5,7 +5,7 @@ ghost use Rattle.header.specs.Header.{sizeOf};
 ghost use Rattle.bitalloc.specs.Options.{isSome, tableIn, classIn};
 ghost use Rattle.encoder_samples.specs.Entries.{codedOf};
 ghost use Rattle.encoder_bit_budget.specs.Snr.{snrIn};
-ghost use Rattle.c_answers.specs.Replies.{tableOr, limitsOf, allocationBits, classOr, figuresOf, snrOr, tripletValues, selectionValues};
+ghost use Rattle.c_answers.specs.Replies.{tableOr, limitsOf, allocationValues, classOr, figuresOf, snrOr, tripletValues, selectionValues};
 use bitalloc::{BitAllocTable, OptionClass, OptionTable};
 use encoder_bit_allocator::Allocation;
 use encoder_bit_budget::OptionF64;
@@ -147,8 +147,8 @@ pub fn sample_code(coded: SampleCode) -> u32
 }
 
 // The bits left, and cb, fixed and banc.
-pub fn allocation_bits(allocation: Allocation) -> [u32; 4]
-    ensures { λ r. ⌜ r ≡ allocationBits allocation ⌝ }
+pub fn allocation_values(allocation: Allocation) -> [u32; 4]
+    ensures { λ r. ⌜ r ≡ allocationValues allocation ⌝ }
 {
     [allocation.left, allocation.cb, allocation.fixed, allocation.banc]
 }

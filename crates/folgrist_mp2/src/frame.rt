@@ -231,7 +231,7 @@ pub extern "C" fn folgrist_allocate_bits(
         HeaderGiven::Meant(header) => {
             let allocation = encoder_bit_allocator::allocate_bits(header, slots::rows(smr_db), banc);
             let nb_steps = parts::steps_by_slot(allocation);
-            let bits = parts::allocation_bits(allocation);
+            let bits = parts::allocation_values(allocation);
             writing::put(&nb_steps, steps);
             writing::put(&bits, out);
             allocation.number
