@@ -27,8 +27,8 @@ use Rattle.encoder_samples.specs.Entries.{classAsked, sampleCode, tripletAnswer
 use Rattle.layout.specs.Slots.{smrRows}
 use Rattle.encoder_bit_budget.specs.declared.FixedBitBudget.{FixedBitBudget}
 use Rattle.encoder_bit_budget.specs.Budget.{plain, tableAsked, budgetOf, availableOf}
-use Rattle.encoder_bit_budget.specs.Demand.{demandOf}
-use Rattle.encoder_bit_budget.specs.Snr.{snrOf}
+use Rattle.encoder_bit_demand.specs.Demand.{demandOf}
+use Rattle.encoder_bit_demand.specs.Snr.{snrOf}
 use Rattle.encoder_bit_allocator.specs.declared.Allocation.{Allocation}
 use Rattle.encoder_bit_allocator.specs.Allocation.{allocationOf}
 use Rattle.c_answers.specs.Answers.{Reply, reply, orNothing}

@@ -24,7 +24,7 @@ use Rattle.encoder_bit_budget.specs.declared.BitAllocError.{BitAllocError}
 use Rattle.encoder_bit_budget.specs.declared.BitAllocError.the-variants.{NoBitallocTable, ZeroSampleRate, FrameTooLarge}
 use Rattle.encoder_bit_budget.specs.declared.Budget.the-variants.{Ok, Refused}
 use Rattle.encoder_bit_budget.specs.Budget.{headerAsked, errorNumber, budgetIn, budgetOf, budgetUnder, budgetWith, layoutIn, fixedIn, cbOf, fixedOf, offeredOf, natural}
-use Rattle.encoder_bit_budget.specs.Demand.{smrAt}
+use Rattle.encoder_bit_demand.specs.Demand.{smrAt}
 use Rattle.encoder_bit_budget.proofs.BudgetLaws.{refusing-header, answer-is, accepted-is, cb-is}
 use Rattle.encoder_bit_budget.proofs.AvailableLaws.{natural-minus}
 use Rattle.encoder_bit_allocator.specs.declared.Allocation.{Allocation}

@@ -14,7 +14,7 @@ use Rattle.layout.specs.declared.AllocationField.{AllocationField}
 use Rattle.layout.specs.Layout.{own, fieldsOf, fieldIn}
 use Rattle.layout.proofs.FieldLaws.{few}
 use Rattle.allocation_rounds.proofs.OnTheWay.{zeros}
-use Rattle.encoder_bit_budget.specs.Demand.{firstStep, FirstStepIs}
+use Rattle.encoder_bit_demand.specs.Demand.{firstStep, FirstStepIs}
 use Rattle.encoder_bit_allocator.specs.Entries.{worstCase}
 use Rattle.encoder_bit_allocator.specs.Laid.{Modest, CostsAre}
 

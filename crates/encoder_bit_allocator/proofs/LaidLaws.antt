@@ -21,10 +21,10 @@ use Rattle.layout.specs.declared.Layout.{Layout}
 use Rattle.layout.specs.declared.AllocationField.{AllocationField}
 use Rattle.layout.specs.Layout.{fieldsOf, fieldIn, FieldIs}
 use Rattle.layout.proofs.FieldLaws.{few}
-use Rattle.encoder_bit_budget.specs.declared.OptionF64.{OptionF64}
-use Rattle.encoder_bit_budget.specs.declared.OptionF64.the-variants.{Some, None}
-use Rattle.encoder_bit_budget.specs.Snr.{snrOf, orNan, snrIn}
-use Rattle.encoder_bit_budget.specs.Demand.{smrAt, smrsOf}
+use Rattle.encoder_bit_demand.specs.declared.OptionF64.{OptionF64}
+use Rattle.encoder_bit_demand.specs.declared.OptionF64.the-variants.{Some, None}
+use Rattle.encoder_bit_demand.specs.Snr.{snrOf, orNan, snrIn}
+use Rattle.encoder_bit_demand.specs.Demand.{smrAt, smrsOf}
 use Rattle.encoder_bit_allocator.specs.Entries.{Entry, slotMnr, mnrOf, mnrAt, charge, chargeAt, entryIn, entryOf, entriesOf, ChargeIs}
 use Rattle.encoder_bit_allocator.specs.Laid.{LaidOut}
 

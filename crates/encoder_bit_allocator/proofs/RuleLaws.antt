@@ -21,8 +21,8 @@ use Rattle.bitalloc.specs.declared.BitAllocTable.{BitAllocTable}
 use Rattle.bitalloc.specs.Tables.{rowOf, sblimitOf}
 use Rattle.bitalloc.specs.Classes.{sampleBits}
 use Rattle.bitalloc.proofs.RowLaws.{row-rule, places-small}
-use Rattle.encoder_bit_budget.specs.Snr.{snr}
-use Rattle.encoder_bit_budget.proofs.RowSnr.{row-snr-rule, row-snr-le, row-bits-rise}
+use Rattle.encoder_bit_demand.specs.Snr.{snr}
+use Rattle.encoder_bit_demand.proofs.RowSnr.{row-snr-rule, row-snr-le, row-bits-rise}
 use Rattle.allocation_rounds.specs.Promises.{Counting, Rising}
 use Rattle.encoder_bit_allocator.specs.Entries.{Entry, slotMnr, least, mnrAt, chargeAt, entryIn, rulesOf}
 

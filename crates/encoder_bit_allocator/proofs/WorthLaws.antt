@@ -16,7 +16,7 @@ use Rattle.layout.specs.declared.AllocationField.{AllocationField}
 use Rattle.layout.specs.Slots.{slotOf}
 use Rattle.layout.specs.Layout.{served, fieldsOf, fieldIn}
 use Rattle.layout.proofs.FieldLaws.{few}
-use Rattle.encoder_bit_budget.specs.Demand.{smrAt, smrsOf}
+use Rattle.encoder_bit_demand.specs.Demand.{smrAt, smrsOf}
 use Rattle.allocation_rounds.specs.declared.Run.{Run}
 use Rattle.allocation_rounds.specs.Rounds.{Rules, price, placeIn, started, ended}
 use Rattle.allocation_rounds.specs.Promises.{charged, Counting, Spent, Exchanged}

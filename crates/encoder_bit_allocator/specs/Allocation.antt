@@ -21,7 +21,7 @@ use Rattle.audio_data.specs.declared.AudioData.{AudioData}
 use Rattle.audio_data.specs.Record.{fresh, filler}
 use Rattle.encoder_bit_budget.specs.declared.Request.{Request}
 use Rattle.encoder_bit_budget.specs.Budget.{headerAsked, budgetOf, layoutIn, cbOf, fixedOf, offeredOf, natural}
-use Rattle.encoder_bit_budget.specs.Demand.{smrAt}
+use Rattle.encoder_bit_demand.specs.Demand.{smrAt}
 use Rattle.allocation_rounds.specs.declared.Run.{Run}
 use Rattle.allocation_rounds.specs.Rounds.{started, ended, placeIn}
 use Rattle.allocation_rounds.specs.Promises.{Over, Accounted, Spent, Exchanged}

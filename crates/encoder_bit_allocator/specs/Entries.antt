@@ -14,8 +14,8 @@ use Rattle.bitalloc.specs.Classes.{sampleBits}
 use Rattle.layout.specs.declared.Layout.{Layout}
 use Rattle.layout.specs.declared.AllocationField.{AllocationField}
 use Rattle.layout.specs.Layout.{fieldsOf, fieldIn}
-use Rattle.encoder_bit_budget.specs.Snr.{snr}
-use Rattle.encoder_bit_budget.specs.Demand.{smrsOf, firstStep}
+use Rattle.encoder_bit_demand.specs.Snr.{snr}
+use Rattle.encoder_bit_demand.specs.Demand.{smrsOf, firstStep}
 use Rattle.allocation_rounds.specs.Rounds.{Rules}
 
 -- of a field: the steps at the places of its row, the signal-to-mask ratios of the channels that it serves, and the bits that its first step

@@ -6,14 +6,15 @@ ghost use Rattle.bitalloc.specs.Tables.{rowOf};
 ghost use Rattle.layout.specs.Layout.{fieldsOf};
 ghost use Rattle.layout.specs.Slots.{channelIn, subbandIn};
 ghost use Rattle.encoder_bit_budget.specs.Budget.{plain, fixedIn};
-ghost use Rattle.encoder_bit_budget.specs.Demand.{smrsOf};
+ghost use Rattle.encoder_bit_demand.specs.Demand.{smrsOf};
 ghost use Rattle.encoder_bit_allocator.specs.Entries.{slotMnr, mnrOf, entriesOf, ChargeIs};
 ghost use Rattle.encoder_bit_allocator.specs.Allocation.{stepsHeld, stepsOf, accepted, refused, short, AllocationIs};
 ghost use Rattle.encoder_bit_allocator.specs.Laid.{LaidOut, TopsTo, Modest, CostsAre, Small, RunIs, allocationUnder};
 use allocation_rounds::Run;
 use audio_data::AudioData;
 use bitalloc::{BitAllocTable, OptionU32};
-use encoder_bit_budget::{Budget, FixedBitBudget, OptionF64, Request};
+use encoder_bit_budget::{Budget, FixedBitBudget, Request};
+use encoder_bit_demand::OptionF64;
 use header::FrameHeader;
 use layout::{AllocationField, Layout};
 
@@ -35,7 +36,7 @@ pub fn slot_mnr(nb_steps: u32, smr: f64) -> f64
     if nb_steps == 0 {
         return -smr;
     }
-    let snr = encoder_bit_budget::snr_db(nb_steps);
+    let snr = encoder_bit_demand::snr_db(nb_steps);
     let OptionF64::Some(db) = snr else {
         return 0.0 / 0.0;
     };
@@ -149,7 +150,7 @@ fn worst_case(layout: Layout) -> [u32; 64]
     let mut costs = [0; 64];
     let mut f: usize = 0;
     while f < fields {
-        costs[f] = encoder_bit_budget::first_step_bits(layout.field(f));
+        costs[f] = encoder_bit_demand::first_step_bits(layout.field(f));
         f = f + 1;
     }
     costs

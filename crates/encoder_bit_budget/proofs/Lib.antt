@@ -1,5 +1,2 @@
-pub mod SnrLaws
-pub mod RowSnr
 pub mod BudgetLaws
 pub mod AvailableLaws
-pub mod DemandLaws

@@ -1,4 +1,2 @@
-pub mod Snr
 pub mod Budget
-pub mod Demand
 pub mod OnTheWay

@@ -189,7 +189,7 @@ pub extern "C" fn folgrist_demand_bits(
     match given {
         HeaderGiven::Refused(number) => number,
         HeaderGiven::Meant(header) => {
-            let demand = encoder_bit_budget::demand_bits(header, slots::rows(smr_db));
+            let demand = encoder_bit_demand::demand_bits(header, slots::rows(smr_db));
             out[0] = demand.bits();
             demand.refusal()
         }

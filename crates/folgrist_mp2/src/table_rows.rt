@@ -128,7 +128,7 @@ pub extern "C" fn folgrist_snr_db(steps: u32, out: &mut [f64]) -> u32
     if out.len() < 1 {
         return 98;
     }
-    let found = encoder_bit_budget::snr_db(steps);
+    let found = encoder_bit_demand::snr_db(steps);
     out[0] = parts::snr_db(found);
     parts::snr_number(found)
 }

@@ -2,7 +2,7 @@
 use mathlib.Core.Path.{_≡_, refl}
 use Rattle.tables.specs.Decimal.{decimal}
 use Rattle.encoder_samples.specs.Samples.{clamped}
-use Rattle.encoder_bit_budget.specs.Snr.{snrRow, tableC5, snrOf}
+use Rattle.encoder_bit_demand.specs.Snr.{snrRow, tableC5, snrOf}
 use lib.Ieee.{mul, sub, neg, lt}
 use Rattle.plan_text.specs.Quoted.{text}
 use Rattle.text_line.specs.Line.{aligned}

@@ -19,7 +19,7 @@ use Rattle.encoder_bit_budget.specs.declared.Budget.the-variants.{Refused}
 use Rattle.encoder_bit_budget.specs.Budget.{BudgetAnswer, plain, budgetIn, budgetOf, noBudget, layoutIn, fixedIn, cbOf, fixedOf, offeredOf, natural}
 use Rattle.encoder_bit_budget.proofs.BudgetLaws.{cb-is}
 use Rattle.encoder_bit_budget.proofs.AvailableLaws.{natural-minus}
-use Rattle.encoder_bit_budget.specs.Demand.{demandOf}
+use Rattle.encoder_bit_demand.specs.Demand.{demandOf}
 use Rattle.encoder_bit_allocator.specs.declared.Allocation.{Allocation}
 use Rattle.encoder_bit_allocator.specs.Allocation.{allocationOf}
 use Rattle.encoder_bit_allocator.proofs.AnswerLaws.{accepted-budget}

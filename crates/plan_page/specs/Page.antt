@@ -10,7 +10,7 @@ use Rattle.header.specs.Header.{freeFormat}
 use Rattle.layout.specs.Layout.{channelCount}
 use Rattle.encoder_bit_budget.specs.declared.FixedBitBudget.{FixedBitBudget}
 use Rattle.encoder_bit_budget.specs.Budget.{plain, budgetOf, fixedIn, layoutIn, offeredOf, natural}
-use Rattle.encoder_bit_budget.specs.Demand.{demandOf}
+use Rattle.encoder_bit_demand.specs.Demand.{demandOf}
 use Rattle.encoder_bit_allocator.specs.declared.Allocation.{Allocation}
 use Rattle.encoder_bit_allocator.specs.Allocation.{allocationOf}
 use Rattle.plan_text.specs.Quoted.{text}

@@ -33,7 +33,7 @@ pub fn page_line(header: FrameHeader, banc: u32, smr_db: [[f64; 32]; 2], n: usiz
     let a = encoder_bit_allocator::allocate_bits(header, smr_db, banc);
     if a.number == 0 {
         let b = budget_held(Request { header, banc });
-        let demand = encoder_bit_budget::demand_bits(header, smr_db);
+        let demand = encoder_bit_demand::demand_bits(header, smr_db);
         let audio = a.audio;
         let steps = audio.nb_steps;
         accepted_line(b, offered_bits(b, banc), demand.bits(), steps, a.left as u64, smr_db, n)

@@ -102,7 +102,7 @@ fn bits_in(field: AllocationField, steps: &[u32; 64], sb: usize) -> u64
 {
     if field.subband == sb {
         let nb_steps = steps[32 * field.channel + field.subband];
-        encoder_bit_allocator::charge(nb_steps, encoder_bit_budget::first_step_bits(field))
+        encoder_bit_allocator::charge(nb_steps, encoder_bit_demand::first_step_bits(field))
     } else {
         0
     }

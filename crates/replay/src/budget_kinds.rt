@@ -11,7 +11,7 @@ use bitalloc::OptionU32;
 use encoder_bit_allocator::Allocation;
 use encoder_bit_budget::Budget;
 use encoder_bit_budget::FixedBitBudget;
-use encoder_bit_budget::OptionF64;
+use encoder_bit_demand::OptionF64;
 use replay_answers::Verdict;
 use replay_answers::pair_verdict;
 use replay_answers::same_numbers;
@@ -23,7 +23,7 @@ pub fn snr_db(count: usize, numbers: &[u64; 256]) -> Verdict {
     let OptionU32::Some(steps) = u32_of(numbers[1]) else {
         return Verdict::Unread;
     };
-    let answers = snr_numbers(encoder_bit_budget::snr_db(steps));
+    let answers = snr_numbers(encoder_bit_demand::snr_db(steps));
     verdict_of(count == 4, same_numbers(numbers, 2, &answers))
 }
 
@@ -82,7 +82,7 @@ pub fn demand_bits(count: usize, numbers: &[u64; 256]) -> Verdict {
     let OptionHeader::Some(header) = header_of(numbers) else {
         return Verdict::Unread;
     };
-    let demand = encoder_bit_budget::demand_bits(header, ratios(numbers, 8));
+    let demand = encoder_bit_demand::demand_bits(header, ratios(numbers, 8));
     pair_verdict(
         count == 74,
         demand.refusal() as u64,

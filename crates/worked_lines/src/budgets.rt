@@ -92,6 +92,6 @@ fn demand(smr: f64) -> u64 {
     let header = frame(false, 48_000, 32_000, Mode::SingleChannel);
     let mut first = [0.0; 32];
     first[0] = smr;
-    let answer = encoder_bit_budget::demand_bits(header, [first, [0.0; 32]]);
+    let answer = encoder_bit_demand::demand_bits(header, [first, [0.0; 32]]);
     answer.bits()
 }

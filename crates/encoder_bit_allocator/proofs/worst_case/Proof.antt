@@ -4,7 +4,7 @@ use mathlib.Core.Path.{_≡_, refl, sym, ap, _∙_, subst}
 use native.Mathlib.Omega.{arith}
 use lib.ListN.{length, getD, length-set}
 use Rattle.layout.specs.Layout.{fieldsOf, fieldIn}
-use Rattle.encoder_bit_budget.specs.Demand.{firstStep}
+use Rattle.encoder_bit_demand.specs.Demand.{firstStep}
 use Rattle.encoder_bit_allocator.proofs.CostLaws.{Costed, none-costed, one-more-costed, all-costed}
 use borrow.Author.Needs.{needs}
 use Rattle.encoder_bit_allocator.proofs.worst_case.Statement.{statement}

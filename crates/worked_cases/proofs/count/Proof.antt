@@ -18,7 +18,7 @@ use Rattle.layout.specs.Layout.{layoutOf, fieldsOf}
 use Rattle.audio_data.specs.Record.{filler}
 use Rattle.encoder_scalefactors.specs.Indices.{pickOf}
 use Rattle.encoder_scfsi.specs.Select.{selection}
-use Rattle.encoder_bit_budget.specs.Snr.{snrOf}
+use Rattle.encoder_bit_demand.specs.Snr.{snrOf}
 use Rattle.encoder_bit_budget.specs.Budget.{budgetOf}
 use Rattle.allocation_rounds.specs.Rounds.{Rules, price, ended}
 use Rattle.allocation_rounds.proofs.OnTheWay.{end-untouched}

@@ -6,7 +6,7 @@ use mathlib.Core.List.{[], _∷_}
 use borrow.Author.Needs.{needs}
 use Rattle.c_answers.proofs.AnswerLaws.{room, both-long, refused-by, one-by}
 use Rattle.c_answers.proofs.ArgumentLaws.{header-refused, header-meant}
-use Rattle.encoder_bit_budget.specs.Demand.{demandOf}
+use Rattle.encoder_bit_demand.specs.Demand.{demandOf}
 use Rattle.c_answers.specs.Answers.{reply}
 use Rattle.folgrist_mp2.proofs.frame.folgrist_demand_bits.Statement.{statement}
 use Rattle.folgrist_mp2.proofs.frame.folgrist_demand_bits.Tie as tie

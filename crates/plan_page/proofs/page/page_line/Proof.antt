@@ -1,7 +1,7 @@
 -- `plan_page::page::page_line` meets its contract.
 use mathlib.Core.Path.{ap, _∙_}
 use Rattle.plan_page.proofs.PageLaws.{line-accepted, line-refused, line-behind}
-use Rattle.encoder_bit_budget.specs.Demand.{Demanded}
+use Rattle.encoder_bit_demand.specs.Demand.{Demanded}
 use borrow.Author.Needs.{needs}
 use Rattle.plan_page.proofs.page.page_line.Statement.{statement}
 use Rattle.plan_page.proofs.page.page_line.Tie as tie

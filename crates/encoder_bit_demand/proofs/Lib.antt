@@ -1,0 +1,3 @@
+pub mod SnrLaws
+pub mod RowSnr
+pub mod DemandLaws

@@ -1,0 +1,3 @@
+pub mod Snr
+pub mod Demand
+pub mod OnTheWay
