@@ -197,13 +197,6 @@ module _ (R : Rules) where
           let n = taken-length s f .0 in
           sym (settled (roomIn R (taken R f s)) (taken R f s) (omega arith) (omega arith) .1 k (omega arith)) ∙ sym (rounds-on k s f r e)
 
-  pub ended-length : (s : Run)
-      → (length (ended R s .places) ≡ length (s .places)) × (length (ended R s .closed) ≡ length (s .closed))
-  unfolding ended
-  ended-length s =
-      along (λ t. (length (t .places) ≡ length (s .places)) × (length (t .closed) ≡ length (s .closed)))
-      (λ t f r e p. (taken-length t f .0 ∙ p .0, taken-length t f .1 ∙ p .1)) (roomIn R s) s (refl, refl)
-
   -- ---- a round is the candidate's turn
 
   pub round-is : (s : Run) → round R s ≡ turn R (candidate R s) s
