@@ -9,11 +9,11 @@ use lib.Ieee.{Float}
 use lib.ListN.{length, replicate, length-set, getD-replicate}
 use Rattle.tables.specs.Sum.{sumBelow}
 use Rattle.allocation_rounds.specs.declared.Run.{Run}
-use Rattle.allocation_rounds.specs.Rounds.{Rules, price, placeIn, closedIn, raiseAt, closeAt, round, ended, started}
+use Rattle.allocation_rounds.specs.Rounds.{Rules, price, placeIn, closedIn, closeAt, round, ended, started}
 use Rattle.allocation_rounds.specs.Promises.{charged, Counting, Over, Accounted, Spent}
 use Rattle.allocation_rounds.proofs.Fields.{either, one-differs}
 use Rattle.allocation_rounds.proofs.Scan.{PickedIn, picked-open, closed-below}
-use Rattle.allocation_rounds.proofs.Ending.{cost, raise-here, raise-else, close-else, over, round-keeps, ended-keeps}
+use Rattle.allocation_rounds.proofs.Ending.{cost, raiseAt, raise-here, raise-else, close-else, over, round-keeps, ended-keeps}
 
 -- ---- charges
 
