@@ -23,7 +23,7 @@ use Rattle.bitalloc.specs.declared.BitAllocTable.{BitAllocTable}
 use Rattle.bitalloc.specs.declared.BitAllocTable.the-variants.{B2a, B2b, B2c, B2d, B1Lsf}
 use Rattle.bitalloc.specs.declared.OptionU32.the-variants.{Some, None}
 use Rattle.bitalloc.specs.Options.{numberIn}
-use Rattle.bitalloc.specs.Tables.{Range, RowRule, NbalIs, StepsAre, IndexIs, ranges, rangeOf, holds, widthIn, placesIn, nbalOf, rowOf, sblimitOf, nbalSum, stepsAt, indexOf}
+use Rattle.bitalloc.specs.Tables.{Range, RowRule, NbalIs, StepsAre, AllocationIndexIs, ranges, rangeOf, holds, widthIn, rowIn, nbalOf, rowOf, sblimitOf, nbalSum, stepsAt, indexOf}
 
 -- ---- the rule
 
@@ -83,7 +83,7 @@ no-range t sb h =
 
 pub no-row : (t : BitAllocTable) (sb : ℕ) → sblimitOf t ≤ sb → rowOf t sb ≡ []
 unfolding rowOf
-no-row t sb h = ap placesIn (no-range t sb h)
+no-row t sb h = ap rowIn (no-range t sb h)
 
 pub no-field : (t : BitAllocTable) (sb : ℕ) → sblimitOf t ≤ sb → nbalOf t sb ≡ 0
 unfolding nbalOf
@@ -225,7 +225,7 @@ steps-past t sb i places p h = record {
 }
 
 pub index-found : (t : BitAllocTable) (sb steps i places : ℕ) (row : List ℕ) → row ≡ rowOf16 t sb → places ≡ length (rowOf t sb)
-  → i < places → ((k : ℕ) → k < i → getD row k 0 ≡ steps → ⊥) → getD row i 0 ≡ steps → IndexIs t sb steps (Some i)
+  → i < places → ((k : ℕ) → k < i → getD row k 0 ≡ steps → ⊥) → getD row i 0 ≡ steps → AllocationIndexIs t sb steps (Some i)
 unfolding indexOf
 index-found t sb steps i places row e p h b q =
     let l : i < length (rowOf t sb) = subst (λ (n : ℕ). i < n) p h in
@@ -238,7 +238,7 @@ index-found t sb steps i places row e p h b q =
     }
 
 pub index-missing : (t : BitAllocTable) (sb steps places : ℕ) (row : List ℕ) → row ≡ rowOf16 t sb → places ≡ length (rowOf t sb)
-  → ((k : ℕ) → k < places → getD row k 0 ≡ steps → ⊥) → IndexIs t sb steps None
+  → ((k : ℕ) → k < places → getD row k 0 ≡ steps → ⊥) → AllocationIndexIs t sb steps None
 unfolding indexOf
 index-missing t sb steps places row e p b = record {
   whole =

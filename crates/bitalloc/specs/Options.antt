@@ -1,5 +1,6 @@
 -- What the code's enums of a value or nothing stand for: an Option of the value.
 use Prim.Native.Nat.{ℕ}
+use mathlib.Core.Bool.{Bool, true, false}
 use mathlib.Core.Option.{Option, none, some}
 use Rattle.bitalloc.specs.declared.OptionU32.{OptionU32}
 use Rattle.bitalloc.specs.declared.OptionU32.the-variants as U32
@@ -9,6 +10,11 @@ use Rattle.bitalloc.specs.declared.OptionTable.the-variants as Table
 use Rattle.bitalloc.specs.declared.QuantClass.{QuantClass}
 use Rattle.bitalloc.specs.declared.OptionClass.{OptionClass}
 use Rattle.bitalloc.specs.declared.OptionClass.the-variants as Class
+
+-- whether there is a value
+abbrev pub isSome : {A : Type 0} → Option A → Bool
+isSome none = false
+isSome (some x) = true
 
 abbrev pub numberIn : OptionU32 → Option ℕ
 numberIn (U32.Some n) = some n

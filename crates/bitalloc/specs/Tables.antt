@@ -13,6 +13,17 @@ use Rattle.bitalloc.specs.declared.OptionU32.{OptionU32}
 use Rattle.bitalloc.specs.declared.OptionU32.the-variants.{Some}
 use Rattle.bitalloc.specs.Options.{numberIn}
 
+-- the tables in the order of their numbers, 0 to 4
+abbrev pub tableNumbered : ℕ → Option BitAllocTable
+tableNumbered number = getElem? (B2a ∷ B2b ∷ B2c ∷ B2d ∷ B1Lsf ∷ []) number
+
+abbrev pub tableNumber : BitAllocTable → ℕ
+tableNumber B2a = 0
+tableNumber B2b = 1
+tableNumber B2c = 2
+tableNumber B2d = 3
+tableNumber B1Lsf = 4
+
 -- What a table prints alike for a range of subbands: the bits of their allocation field, and the steps that its values 1, 2, .. stand for.
 -- The value 0, printed '-', stands for no allocation.
 pub record Range : Type 0 where
@@ -77,13 +88,13 @@ unfolding rangeOf
 nbalOf t sb = widthIn (rangeOf t sb)
 
 -- A subband's row: the steps at each value of its allocation field. A place is an index into it. Outside the table there is no place.
-abbrev pub placesIn : Option Range → List ℕ
-placesIn none = []
-placesIn (some g) = 0 ∷ g .steps
+abbrev pub rowIn : Option Range → List ℕ
+rowIn none = []
+rowIn (some g) = 0 ∷ g .steps
 
 unfoldable pub rowOf : BitAllocTable → ℕ → List ℕ
 unfolding rangeOf
-rowOf t sb = placesIn (rangeOf t sb)
+rowOf t sb = rowIn (rangeOf t sb)
 
 -- the steps at a place of the row
 unfoldable pub stepsAt : BitAllocTable → ℕ → ℕ → Option ℕ
@@ -132,6 +143,6 @@ pub record StepsAre (t : BitAllocTable) (sb index : ℕ) (r : OptionU32) : Type 
   pub whole : numberIn r ≡ stepsAt t sb index
   pub below : (n : ℕ) → r ≡ Some n → (index < 16) × (n ≤ 65535)
 
-pub record IndexIs (t : BitAllocTable) (sb steps : ℕ) (r : OptionU32) : Type 0 where
+pub record AllocationIndexIs (t : BitAllocTable) (sb steps : ℕ) (r : OptionU32) : Type 0 where
   pub whole : numberIn r ≡ indexOf t sb steps
   pub below : (i : ℕ) → r ≡ Some i → i < 16

@@ -1,7 +1,7 @@
 // The bit allocation tables of Layer II, which table a header selects, and the classes of quantization: Tables 3-B.2a
 // to d and 3-B.4 of ISO/IEC 11172-3, Table B.1 of ISO/IEC 13818-3.
 ghost use mathlib.Core.Path.{_≡_};
-ghost use Rattle.bitalloc.specs.Tables.{SblimitIs, PlacesAre, NbalIs, StepsAre, IndexIs};
+ghost use Rattle.bitalloc.specs.Tables.{tableNumbered, tableNumber, SblimitIs, PlacesAre, NbalIs, StepsAre, AllocationIndexIs};
 ghost use Rattle.bitalloc.specs.Storage.{rowOf16};
 ghost use Rattle.bitalloc.specs.Changes.{WidthIs};
 ghost use Rattle.bitalloc.specs.Options.{numberIn, tableIn};
@@ -30,7 +30,40 @@ pub enum BitAllocTable {
     B1Lsf,
 }
 
+// A table, or nothing.
+pub enum OptionTable {
+    Some(BitAllocTable),
+    None,
+}
+
 impl BitAllocTable {
+    // The table of a number.
+    pub fn numbered(number: u64) -> OptionTable
+        ensures { λ r. ⌜ tableIn r ≡ tableNumbered number ⌝ }
+    {
+        match number {
+            0 => OptionTable::Some(BitAllocTable::B2a),
+            1 => OptionTable::Some(BitAllocTable::B2b),
+            2 => OptionTable::Some(BitAllocTable::B2c),
+            3 => OptionTable::Some(BitAllocTable::B2d),
+            4 => OptionTable::Some(BitAllocTable::B1Lsf),
+            _ => OptionTable::None,
+        }
+    }
+
+    // The table's number.
+    pub fn number(self) -> u32
+        ensures { λ r. ⌜ r ≡ tableNumber self ⌝ }
+    {
+        match self {
+            BitAllocTable::B2a => 0,
+            BitAllocTable::B2b => 1,
+            BitAllocTable::B2c => 2,
+            BitAllocTable::B2d => 3,
+            BitAllocTable::B1Lsf => 4,
+        }
+    }
+
     // How many subbands the table carries.
     pub fn sblimit(self) -> usize
         ensures { λ r. ⌜ SblimitIs self r ⌝ }
@@ -73,7 +106,7 @@ impl BitAllocTable {
 
     // The place in the subband's row at which the steps stand.
     pub fn allocation_index(self, sb: usize, nb_steps: u32) -> OptionU32
-        ensures { λ r. ⌜ IndexIs self sb «nb_steps» r ⌝ }
+        ensures { λ r. ⌜ AllocationIndexIs self sb «nb_steps» r ⌝ }
     {
         let places = self.places(sb);
         let row = self.row(sb);
@@ -122,12 +155,6 @@ fn nbal_by_range(sb: usize, four: usize, three: usize, two: usize) -> u32
     } else {
         0
     }
-}
-
-// A table, or nothing.
-pub enum OptionTable {
-    Some(BitAllocTable),
-    None,
 }
 
 // The table that the header selects.

@@ -19,7 +19,7 @@ use Rattle.bitalloc.specs.declared.QuantClass.{QuantClass}
 use Rattle.bitalloc.specs.Classes.{bitsPerSample}
 use Rattle.audio_data.specs.Scfsi.{codeOf}
 use Rattle.encoder_scfsi.specs.declared.ScfsiSelection.{ScfsiSelection}
-use Rattle.encoder_scfsi.specs.Class.{numberOf}
+use Rattle.encoder_scfsi.specs.Class.{classNumber}
 use Rattle.encoder_scfsi.specs.Select.{bit}
 use Rattle.c_answers.specs.Answers.{Meaning, refused, meant, asked, Reply, reply, silent, answered, orNothing, written, Answers}
 use Rattle.c_answers.specs.Replies.{figuresOf, selectionValues}
@@ -101,7 +101,7 @@ pub figures-listed : (q : QuantClass) (n : ℕ) → n ≡ bitsPerSample (q .«nb
   → boolByte (q .grouping) ∷ q .«samples_per_codeword» ∷ q .«bits_per_codeword» ∷ n ∷ [] ≡ figuresOf q
 figures-listed q n p = rw (as-bit (q .grouping), p)
 
-pub selection-listed : (s : ScfsiSelection) (n c d : ℕ) → n ≡ codeOf (s .scfsi) → c ≡ numberOf (s .class1) → d ≡ numberOf (s .class2)
+pub selection-listed : (s : ScfsiSelection) (n c d : ℕ) → n ≡ codeOf (s .scfsi) → c ≡ classNumber (s .class1) → d ≡ classNumber (s .class2)
   → getD (s .used) 0 0 ∷ getD (s .used) 1 0 ∷ getD (s .used) 2 0 ∷ boolByte (s .pattern .write0) ∷ boolByte (s .pattern .write1)
   ∷ boolByte (s .pattern .write2) ∷ n ∷ c ∷ d ∷ [] ≡ selectionValues s
 selection-listed s n c d p q r = rw (as-bit (s .pattern .write0), as-bit (s .pattern .write1), as-bit (s .pattern .write2), p, q, r)

@@ -13,13 +13,13 @@ use Rattle.header.specs.Header.{frameSize}
 use Rattle.bitalloc.specs.declared.BitAllocTable.{BitAllocTable}
 use Rattle.bitalloc.specs.declared.QuantClass.{QuantClass}
 use Rattle.bitalloc.specs.Select.{tableOf}
-use Rattle.bitalloc.specs.Tables.{sblimitOf, nbalOf, stepsAt, indexOf}
+use Rattle.bitalloc.specs.Tables.{tableNumber, sblimitOf, nbalOf, stepsAt, indexOf}
 use Rattle.bitalloc.specs.Classes.{classOf, bitsPerSample}
 use Rattle.tables.specs.Listed.{tabulate}
 use Rattle.audio_data.specs.Scfsi.{codeOf}
 use Rattle.encoder_scalefactors.specs.Indices.{indexFrom, indicesOf}
 use Rattle.encoder_scfsi.specs.declared.ScfsiSelection.{ScfsiSelection}
-use Rattle.encoder_scfsi.specs.Class.{numberOf as classNumber}
+use Rattle.encoder_scfsi.specs.Class.{classNumber}
 use Rattle.encoder_scfsi.specs.Select.{selection, bit}
 use Rattle.encoder_samples.specs.declared.Triplet.{Triplet}
 use Rattle.encoder_samples.specs.Entries.{sampleCode, tripletAnswer}
@@ -31,7 +31,6 @@ use Rattle.encoder_bit_budget.specs.Snr.{snrOf}
 use Rattle.encoder_bit_allocator.specs.declared.Allocation.{Allocation}
 use Rattle.encoder_bit_allocator.specs.Allocation.{allocationOf}
 use Rattle.c_answers.specs.Answers.{Reply, reply, orNothing}
-use Rattle.c_answers.specs.Arguments.{numberOf}
 
 -- ---- of a header
 
@@ -42,7 +41,7 @@ tableFound o = record { yes = isSome o; otherwise = 1 }
 -- the number of a table, and 0 where there is none
 abbrev pub tableOr : Option BitAllocTable → ℕ
 tableOr none = 0
-tableOr (some t) = numberOf t
+tableOr (some t) = tableNumber t
 
 abbrev pub tableSelected : FrameHeader → Reply ℕ
 tableSelected h = reply (number (tableFound (tableOf h) ∷ [])) (tableOr (tableOf h) ∷ [])
@@ -53,7 +52,7 @@ frameSized h = reply (frameSize h .answer) (frameSize h .bytes ∷ [])
 -- a budget as C has it
 abbrev pub budgetValues : FixedBitBudget → List ℕ
 budgetValues b =
-    b .cb ∷ b .bhdr ∷ b .bcrc ∷ b .bbal ∷ b .sblimit ∷ b .bound ∷ b .channels ∷ numberOf (b .table) ∷ []
+    b .cb ∷ b .bhdr ∷ b .bcrc ∷ b .bbal ∷ b .sblimit ∷ b .bound ∷ b .channels ∷ tableNumber (b .table) ∷ []
 
 abbrev pub budgetFixed : FrameHeader → Reply ℕ
 budgetFixed h = reply (budgetOf h .answer) (budgetValues (budgetOf h .budget))

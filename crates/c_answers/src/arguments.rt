@@ -1,8 +1,8 @@
 // From the numbers that C hands over to what they stand for, and the questions that every function asks first.
 ghost use mathlib.Core.Path.{_≡_};
-ghost use Rattle.c_answers.specs.Arguments.{modeNumbered, extensionNumbered, numberOf, headerMeant, headerFrom, tableMeant, tableFrom};
-use bitalloc::BitAllocTable;
-use header::{FrameHeader, Mode, ModeExtension};
+ghost use Rattle.c_answers.specs.Arguments.{headerMeant, headerFrom, tableMeant, tableFrom};
+use bitalloc::{BitAllocTable, OptionTable};
+use header::{FrameHeader, Mode, ModeExtension, OptionExtension, OptionMode};
 
 // The header that the arguments mean, or the number by which they are refused.
 pub enum HeaderGiven {
@@ -26,40 +26,24 @@ pub fn header_given(
     if short {
         return HeaderGiven::Refused(98);
     }
-    if (lsf <= 1) & (padding <= 1) & (protection_bit <= 1) & (mode <= 3) & (mode_extension <= 3) {
+    let OptionMode::Some(mode) = Mode::of_code(mode as u64) else {
+        return HeaderGiven::Refused(14);
+    };
+    let OptionExtension::Some(mode_extension) = ModeExtension::of_code(mode_extension as u64) else {
+        return HeaderGiven::Refused(14);
+    };
+    if (lsf <= 1) & (padding <= 1) & (protection_bit <= 1) {
         HeaderGiven::Meant(FrameHeader {
             lsf: lsf == 1,
             bit_rate,
             sample_rate,
             padding: padding == 1,
-            mode: mode_numbered(mode),
-            mode_extension: extension_numbered(mode_extension),
+            mode,
+            mode_extension,
             protection_bit: protection_bit == 1,
         })
     } else {
         HeaderGiven::Refused(14)
-    }
-}
-
-fn mode_numbered(mode: u8) -> Mode
-    ensures { λ r. ⌜ r ≡ modeNumbered mode ⌝ }
-{
-    match mode {
-        0 => Mode::Stereo,
-        1 => Mode::JointStereo,
-        2 => Mode::DualChannel,
-        _ => Mode::SingleChannel,
-    }
-}
-
-fn extension_numbered(extension: u8) -> ModeExtension
-    ensures { λ r. ⌜ r ≡ extensionNumbered extension ⌝ }
-{
-    match extension {
-        0 => ModeExtension::Bound4,
-        1 => ModeExtension::Bound8,
-        2 => ModeExtension::Bound12,
-        _ => ModeExtension::Bound16,
     }
 }
 
@@ -76,25 +60,9 @@ pub fn table_given(short: bool, table: u8) -> TableGiven
     if short {
         return TableGiven::Refused(98);
     }
-    match table {
-        0 => TableGiven::Meant(BitAllocTable::B2a),
-        1 => TableGiven::Meant(BitAllocTable::B2b),
-        2 => TableGiven::Meant(BitAllocTable::B2c),
-        3 => TableGiven::Meant(BitAllocTable::B2d),
-        4 => TableGiven::Meant(BitAllocTable::B1Lsf),
-        _ => TableGiven::Refused(14),
-    }
-}
-
-// The number of a table.
-pub fn number_of(table: BitAllocTable) -> u32
-    ensures { λ r. ⌜ r ≡ numberOf table ⌝ }
-{
-    match table {
-        BitAllocTable::B2a => 0,
-        BitAllocTable::B2b => 1,
-        BitAllocTable::B2c => 2,
-        BitAllocTable::B2d => 3,
-        BitAllocTable::B1Lsf => 4,
+    let meant = BitAllocTable::numbered(table as u64);
+    match meant {
+        OptionTable::Some(t) => TableGiven::Meant(t),
+        OptionTable::None => TableGiven::Refused(14),
     }
 }

@@ -8,7 +8,6 @@ ghost use Rattle.encoder_samples.specs.Entries.{codedOf};
 ghost use Rattle.encoder_bit_budget.specs.Snr.{ratioIn};
 ghost use Rattle.c_answers.specs.Replies.{tableFound, tableOr, limitsOf, allocationBits};
 ghost use Rattle.c_answers.specs.Replies.{classFound, classOr, figuresOf, ratioListed, ratioOr, tripletValues, selectionValues};
-use crate::arguments;
 use bitalloc::{BitAllocTable, OptionClass, OptionTable};
 use encoder_bit_allocator::Allocation;
 use encoder_bit_budget::OptionF64;
@@ -31,7 +30,7 @@ pub fn selected_table(selected: OptionTable) -> u32
     ensures { λ r. ⌜ r ≡ tableOr (tableIn selected) ⌝ }
 {
     match selected {
-        OptionTable::Some(table) => arguments::number_of(table),
+        OptionTable::Some(table) => table.number(),
         OptionTable::None => 0,
     }
 }

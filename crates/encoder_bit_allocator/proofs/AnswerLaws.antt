@@ -1,7 +1,7 @@
--- Each answer of `allocate_bits` from what the budget answered.
-use mathlib.Core.Path.{_≡_, refl, sym, ap, _∙_, subst}
-use mathlib.Core.Bool.{Bool, true, false, not, cond}
-use mathlib.Core.List.{List, [], _∷_, map}
+-- Each answer of an allocation from what the budget answered.
+use mathlib.Core.Path.{_≡_, refl, sym, ap, ap₂, _∙_, subst}
+use mathlib.Core.Bool.{Bool, true, false, cond}
+use mathlib.Core.List.{List, [], _∷_}
 use Prim.Native.Nat.{ℕ, zero, suc, _+_, _-_, _*_, _≤_, _<_}
 use native.Mathlib.Nat.{zero-div}
 use native.Mathlib.Omega.{arith}
@@ -13,27 +13,25 @@ use denote.Shadow.{shadow}
 use denote.Laws.{Is}
 use denote.Array.{Array, each, inArray}
 use denote.Floats.{FloatOf, passes}
-use borrow.Author.Tests.{eqb-true, eq-eqb, le-leb, lt-leb}
-use Rattle.header.specs.declared.FrameHeader.{FrameHeader}
-use Rattle.header.specs.Questions.{Question, number}
+use borrow.Author.Tests.{eqb-true, le-leb, lt-leb, leb-true, leb-false}
+use Rattle.header.specs.Questions.{number}
 use Rattle.header.specs.Header.{frameBytes, freeFormat}
-use Rattle.bitalloc.specs.Tables.{sblimitOf}
-use Rattle.bitalloc.specs.Select.{tableOf}
-use Rattle.audio_data.specs.declared.AudioData.{AudioData}
-use Rattle.audio_data.specs.Record.{fresh, filler}
+use Rattle.header.proofs.QuestionLaws.{behind, all-yes, some-no, said-yes, said-no}
+use Rattle.layout.specs.declared.Layout.{Layout}
+use Rattle.encoder_bit_budget.specs.declared.Request.{Request}
 use Rattle.encoder_bit_budget.specs.declared.FixedBitBudget.{FixedBitBudget}
-use Rattle.encoder_bit_budget.specs.declared.Budget.{Budget}
-use Rattle.encoder_bit_budget.specs.declared.Budget.the-variants.{Ok}
-use Rattle.encoder_bit_budget.specs.Layout.{Field, fieldsBelow, fieldsOf, boundIn}
-use Rattle.encoder_bit_budget.specs.Budget.{Bounded, headerAsked, isSome, budgetIn, budgetOf, budgetUnder, fixedIn}
+use Rattle.encoder_bit_budget.specs.declared.BitAllocError.{BitAllocError}
+use Rattle.encoder_bit_budget.specs.declared.BitAllocError.the-variants.{NoBitallocTable, ZeroSampleRate, FrameTooLarge}
+use Rattle.encoder_bit_budget.specs.declared.Budget.the-variants.{Ok, Refused}
+use Rattle.encoder_bit_budget.specs.Budget.{headerAsked, errorNumber, budgetIn, budgetOf, budgetUnder, budgetWith, layoutIn, fixedIn, cbOf, fixedOf, offeredOf, natural}
 use Rattle.encoder_bit_budget.specs.Demand.{smrAt}
-use Rattle.encoder_bit_budget.proofs.BudgetLaws.{accepted-is}
-use Rattle.allocation_rounds.specs.declared.Run.{Run}
-use Rattle.allocation_rounds.specs.Rounds.{started, ended}
+use Rattle.encoder_bit_budget.proofs.BudgetLaws.{refusing-header, answer-is, accepted-is, cb-is}
+use Rattle.encoder_bit_budget.proofs.AvailableLaws.{natural-minus}
 use Rattle.encoder_bit_allocator.specs.declared.Allocation.{Allocation}
-use Rattle.encoder_bit_allocator.specs.Entries.{entryOf, rulesOf, entriesOf}
-use Rattle.encoder_bit_allocator.specs.Allocation.{stepsOf, runOf, withSteps, allocationAsked, accepted, refused, insufficient, allocationOf, Worth, AllocationIs}
-use Rattle.encoder_bit_allocator.specs.Numbering.{Laid, runIn, acceptedIn}
+use Rattle.encoder_bit_allocator.specs.Entries.{worstCase}
+use Rattle.encoder_bit_allocator.specs.Allocation.{bitsAsked, allocationAsked, accepted, refused, short, layoutFor, allocationOf, Worth, AllocationIs}
+use Rattle.encoder_bit_allocator.specs.Laid.{CostsAre, allocationUnder}
+use Rattle.encoder_bit_allocator.proofs.RunLaws.{same-costs}
 use Rattle.encoder_bit_allocator.proofs.WorthLaws.{worth}
 
 -- ---- the ratios that are handed in are of the format
@@ -58,41 +56,20 @@ smr-fits smr vs p = row-fits smr (p .0) (p .1 .1)
 
 -- ---- the number
 
--- the questions of the header, and the one of the bits behind them
-abbrev asking : Bool → Bool → Bool → List Question → List Question
-asking a b c qs = record { yes = a; otherwise = 1 } ∷ record { yes = b; otherwise = 2 } ∷ record { yes = c; otherwise = 3 } ∷ qs
+module _ (q : Request) where
+  -- where the header's questions are answered yes the bits are asked
+  then-bits : number (headerAsked (q .header)) ≡ 0 → number (allocationAsked q) ≡ number (bitsAsked q ∷ [])
+  then-bits z = behind 0 (headerAsked (q .header)) (bitsAsked q ∷ []) ∙ all-yes (number (bitsAsked q ∷ [])) (headerAsked (q .header)) (refusing-header (q .header)) z
 
-abbrev last : Bool → List Question
-last d = record { yes = d; otherwise = 4 } ∷ []
+  -- else they are not
+  else-header : eqb (number (headerAsked (q .header))) 0 ≡ false → number (allocationAsked q) ≡ number (headerAsked (q .header))
+  else-header z = behind 0 (headerAsked (q .header)) (bitsAsked q ∷ []) ∙ some-no (number (bitsAsked q ∷ [])) (headerAsked (q .header)) z
 
-after-accepted : (a b c d : Bool) → number (asking a b c []) ≡ 0 → number (asking a b c (last d)) ≡ number (last d)
-after-accepted true true true d e = refl
-after-accepted true true false d e = absurd (omega arith)
-after-accepted true false c d e = absurd (omega arith)
-after-accepted false b c d e = absurd (omega arith)
+  enough : number (headerAsked (q .header)) ≡ 0 → fixedOf q + q .banc ≤ cbOf q → number (allocationAsked q) ≡ 0
+  enough z l = then-bits z ∙ said-yes 0 (bitsAsked q) [] (le-leb (fixedOf q + q .banc) (cbOf q) l)
 
-after-refused : (a b c d : Bool) → eqb (number (asking a b c [])) 0 ≡ false
-  → (number (asking a b c (last d)) ≡ number (asking a b c [])) × (eqb (number (asking a b c [])) 4 ≡ false)
-after-refused true true true d e = absurd (subst T e tt)
-after-refused true true false d e = (refl, refl)
-after-refused true false c d e = (refl, refl)
-after-refused false b c d e = (refl, refl)
-
-module _ (h : FrameHeader) (banc : ℕ) where
-  abbrev enough : Bool
-  enough = leb (fixedIn (budgetOf h .budget) + banc) (budgetOf h .budget .cb)
-
-  answered : budgetOf h .answer ≡ number (headerAsked h)
-  unfolding budgetOf
-  answered = refl
-
-  asked-last : budgetOf h .answer ≡ 0 → number (allocationAsked h banc) ≡ number (last enough)
-  asked-last e = after-accepted (isSome (tableOf h)) (not (eqb (h .«sample_rate») 0)) (leb (frameBytes h) 536_870_911) enough (sym answered ∙ e)
-
-  asked-first : eqb (budgetOf h .answer) 0 ≡ false → (number (allocationAsked h banc) ≡ budgetOf h .answer) × (eqb (budgetOf h .answer) 4 ≡ false)
-  asked-first e =
-      let q = after-refused (isSome (tableOf h)) (not (eqb (h .«sample_rate») 0)) (leb (frameBytes h) 536_870_911) enough (rw answered at e) in
-      (q .0 ∙ sym answered, rw answered (q .1))
+  too-short : number (headerAsked (q .header)) ≡ 0 → cbOf q < fixedOf q + q .banc → number (allocationAsked q) ≡ 4
+  too-short z l = then-bits z ∙ said-no 0 (bitsAsked q) [] (lt-leb (fixedOf q + q .banc) (cbOf q) l)
 
 -- ---- free format
 
@@ -100,112 +77,134 @@ padded : (b : Bool) → cond b 1 0 ≤ 1
 padded true = lit≤ tt
 padded false = lit≤ tt
 
-module _ (h : FrameHeader) (free : freeFormat h ≡ true) where
-  free-bytes : frameBytes h ≤ 1
-  free-bytes = rw (eqb-true (h .«bit_rate») 0 free, zero-div) (omega (arith, padded (h .padding)))
+module _ (q : Request) (free : freeFormat (q .header) ≡ true) where
+  free-bytes : frameBytes (q .header) ≤ 1
+  free-bytes = rw (eqb-true (q .header .«bit_rate») 0 free, zero-div) (omega (arith, padded (q .header .padding)))
 
   -- the header alone has 32 bits
-  free-short : (banc : ℕ) → budgetOf h .answer ≡ 0 → leb (fixedIn (budgetOf h .budget) + banc) (budgetOf h .budget .cb) ≡ false
-  unfolding budgetUnder
-  free-short banc e =
-      let b = budgetOf h .budget in
-      let is : b ≡ budgetUnder h (b .table) = accepted-is h b (λ i. record { answer = sym e i; budget = b }) in
-      let cb : b .cb ≡ 8 * frameBytes h = ap (λ b. b .cb) is in
+  free-short : number (headerAsked (q .header)) ≡ 0 → cbOf q < fixedOf q + q .banc
+  unfolding budgetUnder budgetWith
+  free-short z =
+      let b = budgetOf q .budget in
+      let is : b ≡ budgetUnder q (b .table) = accepted-is q b (λ i. record { answer = sym (answer-is q ∙ z) i; budget = b }) in
       let bhdr : b .bhdr ≡ 32 = ap (λ b. b .bhdr) is in
-      lt-leb (fixedIn b + banc) (b .cb) (omega (arith, free-bytes))
+      omega (arith, free-bytes)
 
 -- ---- the answers
 
--- the limits of an accepted budget are its table's
-pub laid : (h : FrameHeader) (b : FixedBitBudget) → budgetIn (Ok b) ≡ budgetOf h → Bounded b → Laid b
-unfolding budgetUnder
-laid h b ok bounds = record { limit = ap (λ b. b .sblimit) (accepted-is h b ok); few = bounds .sblimit; within = bounds .bound }
+module _ (q : Request) (smr : List (List Float)) where
+  abbrev answer : ℕ → Allocation
+  answer n =
+      cond (eqb n 0) (accepted (layoutFor q) smr (worstCase (layoutFor q)) (natural (offeredOf q))) (cond (eqb n 4) (short (cbOf q) (fixedOf q) (q .banc)) (refused n))
 
-abbrev answer : FrameHeader → List (List Float) → ℕ → ℕ → FixedBitBudget → Allocation
-answer h smr banc n b = cond (eqb n 0) (accepted h b smr banc) (cond (eqb n 4) (insufficient b banc) (refused n))
-
-module _ (h : FrameHeader) (smr : List (List Float)) (banc : ℕ) where
-  free-number : freeFormat h ≡ true → number (headerAsked h) ≡ 0 → allocationOf h smr banc .number ≡ 4
+  answered : (n : ℕ) → number (allocationAsked q) ≡ n → answer n ≡ allocationOf q smr
   unfolding allocationOf
-  free-number free z =
-      let e : budgetOf h .answer ≡ 0 = answered h banc ∙ z in
-      let n : number (allocationAsked h banc) ≡ 4 = asked-last h banc e ∙ ap (λ (v : Bool). number (last v)) (free-short h free banc e) in
-      ap (λ (n : ℕ). answer h smr banc n (budgetOf h .budget) .number) n
+  answered n e = ap answer (sym e)
+
+  -- the record's number is the answer's, and where it is 0 the budget was accepted
+  number-is : allocationOf q smr .number ≡ number (allocationAsked q)
+  unfolding allocationOf accepted
+  number-is = go (number (allocationAsked q)) (eqb (number (allocationAsked q)) 0) (eqb (number (allocationAsked q)) 4) refl refl
+    where
+      go : (n : ℕ) (a b : Bool) → eqb n 0 ≡ a → eqb n 4 ≡ b
+        → cond a (accepted (layoutFor q) smr (worstCase (layoutFor q)) (natural (offeredOf q))) (cond b (short (cbOf q) (fixedOf q) (q .banc)) (refused n)) .number ≡ n
+      go n true b z f = sym (eqb-true n 0 z)
+      go n false true z f = sym (eqb-true n 4 f)
+      go n false false z f = refl
+
+  pub accepted-budget : allocationOf q smr .number ≡ 0 → budgetIn (Ok (budgetOf q .budget)) ≡ budgetOf q
+  accepted-budget z = λ i. record { answer = sym (answer-is q ∙ header-zero (sym number-is ∙ z)) i; budget = budgetOf q .budget }
+    where
+      header-zero : number (allocationAsked q) ≡ 0 → number (headerAsked (q .header)) ≡ 0
+      header-zero e = go (eqb (number (headerAsked (q .header))) 0) refl
+        where
+          go : (b : Bool) → eqb (number (headerAsked (q .header))) 0 ≡ b → number (headerAsked (q .header)) ≡ 0
+          go true p = eqb-true (number (headerAsked (q .header))) 0 p
+          go false p = sym (else-header q p) ∙ e
+
+  free-number : freeFormat (q .header) ≡ true → number (headerAsked (q .header)) ≡ 0 → allocationOf q smr .number ≡ 4
+  free-number free z = ap (λ (a : Allocation). a .number) (sym (answered 4 (too-short q z (free-short q free z))))
 
   -- the whole answer, and what it is worth
-  answers : (r : Allocation) → r ≡ allocationOf h smr banc
-    → (r .number ≡ 0
-    → Worth h (budgetOf h .budget .table) smr (budgetOf h .budget .cb - (fixedIn (budgetOf h .budget) + banc)) (r .audio .«nb_steps») (r .left))
-    → AllocationIs h smr banc r
+  answers : (r : Allocation) → r ≡ allocationOf q smr
+    → (r .number ≡ 0 → Worth (layoutFor q) smr (worstCase (layoutFor q)) (natural (offeredOf q)) (r .audio .«nb_steps») (r .left)) → AllocationIs q smr r
   answers r whole worth = record { whole = whole; worth = worth; free = λ f z. ap (λ (a : Allocation). a .number) whole ∙ free-number f z }
 
   -- the header is refused
-  pub is-refused : (r : Budget) (n : ℕ) (a : Allocation) → budgetIn r ≡ budgetOf h → eqb (budgetIn r .answer) 0 ≡ false → n ≡ budgetIn r .answer
-    → a ≡ refused n → AllocationIs h smr banc a
-  unfolding allocationOf
-  is-refused r n a e f p made =
-      let z : n ≡ budgetOf h .answer = p ∙ ap (λ a. a .answer) e in
-      let f′ : eqb (budgetOf h .answer) 0 ≡ false = subst (λ (m : ℕ). eqb m 0 ≡ false) (ap (λ a. a .answer) e) f in
-      let q = asked-first h banc f′ in
-      let g : eqb n 0 ≡ false = subst (λ (m : ℕ). eqb m 0 ≡ false) (sym z) f′ in
-      let k : eqb n 4 ≡ false = subst (λ (m : ℕ). eqb m 4 ≡ false) (sym z) (q .1) in
-      let w : refused n ≡ answer h smr banc n (budgetOf h .budget) = rw (g, k) in
-      answers a (made ∙ w ∙ ap (λ (m : ℕ). answer h smr banc m (budgetOf h .budget)) (z ∙ sym (q .0)))
-      (λ o. absurd (subst T (sym (eq-eqb n 0 (sym (ap (λ (a : Allocation). a .number) made) ∙ o)) ∙ g) tt))
+  pub is-refused : (e : BitAllocError) (n : ℕ) (r : Allocation) → budgetIn (Refused e) ≡ budgetOf q → n ≡ errorNumber e → r ≡ refused n → AllocationIs q smr r
+  is-refused e n r p s made =
+      let z : number (headerAsked (q .header)) ≡ errorNumber e = sym (answer-is q) ∙ sym (ap (λ a. a .answer) p) in
+      let w : r ≡ refused (errorNumber e) = made ∙ ap refused s in
+      answers r (w ∙ is e ∙ answered (errorNumber e) (else-header q (rw z (apart e)) ∙ z))
+      (λ o. absurd (not-zero e (sym (ap (λ (a : Allocation). a .number) w) ∙ o)))
+    where
+      apart : (e : BitAllocError) → eqb (errorNumber e) 0 ≡ false
+      apart NoBitallocTable = refl
+      apart ZeroSampleRate = refl
+      apart FrameTooLarge = refl
+      not-zero : (e : BitAllocError) → errorNumber e ≡ 0 → ⊥
+      not-zero NoBitallocTable z = omega arith
+      not-zero ZeroSampleRate z = omega arith
+      not-zero FrameTooLarge z = omega arith
+      is : (e : BitAllocError) → refused (errorNumber e) ≡ answer (errorNumber e)
+      is NoBitallocTable = refl
+      is ZeroSampleRate = refl
+      is FrameTooLarge = refl
 
-  module _ (b : FixedBitBudget) (ok : budgetIn (Ok b) ≡ budgetOf h) where
-    the-number : budgetOf h .answer ≡ 0
-    the-number = sym (ap (λ a. a .answer) ok)
+  module _ (b : FixedBitBudget) (ok : budgetIn (Ok b) ≡ budgetOf q) where
+    all-asked : number (headerAsked (q .header)) ≡ 0
+    all-asked = sym (answer-is q) ∙ sym (ap (λ a. a .answer) ok)
 
-    the-budget : budgetOf h .budget ≡ b
-    the-budget = sym (ap (λ a. a .budget) ok)
+    same-fixed : fixedIn b ≡ fixedOf q
+    same-fixed = ap (λ a. fixedIn (a .budget)) ok
 
-    asked : (v : Bool) → leb (fixedIn b + banc) (b .cb) ≡ v → number (allocationAsked h banc) ≡ number (last v)
-    asked v e = asked-last h banc the-number
-      ∙ ap (λ (w : Bool). number (last w)) (ap (λ (x : FixedBitBudget). leb (fixedIn x + banc) (x .cb)) the-budget ∙ e)
+    same-offered : b .cb - (fixedIn b + q .banc) ≡ natural (offeredOf q)
+    same-offered = ap₂ (λ (x y : ℕ). x - (y + q .banc)) (cb-is q b ok) same-fixed ∙ sym (natural-minus (cbOf q) (fixedOf q + q .banc))
 
     -- the frame is too small
-    pub is-insufficient : (fixed : ℕ) (d : AudioData) → b .cb < fixedIn b + banc → fixed ≡ fixedIn b → d ≡ filler
-      → AllocationIs h smr banc (record { number = 4; audio = d; left = 0; cb = b .cb; fixed = fixed; banc = banc })
-    unfolding allocationOf
-    is-insufficient fixed d l e f =
+    is-short : leb (fixedIn b + q .banc) (b .cb) ≡ false → AllocationIs q smr (short (b .cb) (fixedIn b) (q .banc))
+    is-short e =
+        let l = leb-false (fixedIn b + q .banc) (b .cb) e in
+        let m : cbOf q < fixedOf q + q .banc = subst (λ (n : ℕ). n < fixedOf q + q .banc) (cb-is q b ok) (subst (λ (n : ℕ). b .cb < n + q .banc) same-fixed l) in
         answers _
-        ((λ i. record { number = 4; audio = f i; left = 0; cb = ap (λ (x : FixedBitBudget). x .cb) (sym the-budget) i; fixed = (e ∙ ap fixedIn (sym the-budget)) i; banc = banc })
-        ∙ ap (λ (n : ℕ). answer h smr banc n (budgetOf h .budget)) (sym (asked false (lt-leb (fixedIn b + banc) (b .cb) l))))
+        ((λ i. short (cb-is q b ok i) (same-fixed i) (q .banc)) ∙ answered 4 (too-short q all-asked m))
         (λ o. absurd (let z : _≡_ {A = ℕ} 4 0 = o in omega arith))
 
-    -- the fields of the budget are the header's
-    same-fields : fieldsBelow (b .bound) (b .channels) (b .sblimit) ≡ fieldsOf h (b .table)
-    unfolding fieldsOf budgetUnder
-    same-fields = ap (λ (x : FixedBitBudget). fieldsBelow (x .bound) (x .channels) (x .sblimit)) (accepted-is h b ok)
-
-    same-answer : acceptedIn b smr (b .cb - (fixedIn b + banc)) ≡ accepted h b smr banc
-    unfolding acceptedIn accepted runIn runOf entriesOf
-    same-answer =
-        let t = b .table in
-        let s : List Field → Run = λ fields. ended (rulesOf (map (entryOf t smr) fields)) (started (b .cb - (fixedIn b + banc))) in
-        ap (λ (fields : List Field). record {
-          number = 0;
-          audio = withSteps (fresh t (b .bound) (b .channels)) (stepsOf fields t (s fields .places));
-          left = s fields .left;
-          cb = 0;
-          fixed = 0;
-          banc = 0
-        }) same-fields
-
-    low : Bounded b → boundIn h (b .table) ≤ sblimitOf (b .table)
-    unfolding budgetUnder
-    low bounds = subst (λ (x : FixedBitBudget). x .bound ≤ x .sblimit) (accepted-is h b ok) (bounds .bound)
-
     -- accepted
-    pub is-accepted : (r : Allocation) → Bounded b → ((ch sb : ℕ) → T (fits binary64 (smrAt smr ch sb))) → fixedIn b + banc ≤ b .cb
-      → r ≡ acceptedIn b smr (b .cb - (fixedIn b + banc)) → AllocationIs h smr banc r
-    unfolding allocationOf accepted
-    is-accepted r bounds fit l e =
-        let w : r ≡ accepted h b smr banc = e ∙ same-answer in
-        let o = b .cb - (fixedIn b + banc) in
-        answers r
-        (w ∙ ap (λ (x : FixedBitBudget). accepted h x smr banc) (sym the-budget)
-        ∙ ap (λ (n : ℕ). answer h smr banc n (budgetOf h .budget)) (sym (asked true (le-leb (fixedIn b + banc) (b .cb) l))))
-        (λ z. subst (λ (x : FixedBitBudget). Worth h (x .table) smr (x .cb - (fixedIn x + banc)) (r .audio .«nb_steps») (r .left)) (sym the-budget)
-        (subst (λ (a : Allocation). Worth h (b .table) smr o (a .audio .«nb_steps») (a .left)) (sym w) (worth h (b .table) smr o (low bounds) fit)))
+    is-accepted : ((ch sb : ℕ) → T (fits binary64 (smrAt smr ch sb))) → leb (fixedIn b + q .banc) (b .cb) ≡ true
+      → AllocationIs q smr (accepted (layoutIn b) smr (worstCase (layoutIn b)) (b .cb - (fixedIn b + q .banc)))
+    unfolding accepted
+    is-accepted fit e =
+        let m = leb-true (fixedIn b + q .banc) (b .cb) e in
+        let m′ : fixedOf q + q .banc ≤ cbOf q = subst (λ (n : ℕ). fixedOf q + q .banc ≤ n) (cb-is q b ok) (subst (λ (n : ℕ). n + q .banc ≤ b .cb) same-fixed m) in
+        let w = ap₂ (λ (l : Layout) (n : ℕ). accepted l smr (worstCase l) n) (ap (λ a. layoutIn (a .budget)) ok) same-offered in
+        answers _ (w ∙ answered 0 (enough q all-asked m′))
+        (λ z. subst (λ (a : Allocation). Worth (layoutFor q) smr (worstCase (layoutFor q)) (natural (offeredOf q)) (a .audio .«nb_steps») (a .left)) (sym w)
+        (worth (layoutFor q) smr (worstCase (layoutFor q)) (natural (offeredOf q)) fit))
+
+    pub is-under : (r : Allocation) → ((ch sb : ℕ) → T (fits binary64 (smrAt smr ch sb))) → r ≡ allocationUnder b smr (q .banc) → AllocationIs q smr r
+    unfolding allocationUnder
+    is-under r fit p = subst (AllocationIs q smr) (sym p) (go (leb (fixedIn b + q .banc) (b .cb)) refl)
+      where
+        go : (v : Bool) → leb (fixedIn b + q .banc) (b .cb) ≡ v
+          → AllocationIs q smr (cond v (accepted (layoutIn b) smr (worstCase (layoutIn b)) (b .cb - (fixedIn b + q .banc))) (short (b .cb) (fixedIn b) (q .banc)))
+        go true e = is-accepted fit e
+        go false e = is-short e
+
+-- ---- under an accepted budget, as the code finds it
+
+module _ (b : FixedBitBudget) (smr : List (List Float)) (banc : ℕ) where
+  pub under-accepted : (r : Allocation) (l : Layout) (costs : List ℕ) (fixed : ℕ) → fixed ≡ fixedIn b → fixed + banc ≤ b .cb → l ≡ layoutIn b → CostsAre l costs
+    → r ≡ accepted l smr costs (b .cb - (fixed + banc)) → r ≡ allocationUnder b smr banc
+  unfolding allocationUnder
+  under-accepted r l costs fixed f m e c p =
+      let k : fixedIn b + banc ≤ b .cb = subst (λ (n : ℕ). n + banc ≤ b .cb) f m in
+      rw (le-leb (fixedIn b + banc) (b .cb) k)
+      (p ∙ same-costs l smr costs (b .cb - (fixed + banc)) c
+      ∙ ap₂ (λ (l : Layout) (n : ℕ). accepted l smr (worstCase l) (b .cb - (n + banc))) e f)
+
+  pub under-short : (r : Allocation) (fixed : ℕ) → fixed ≡ fixedIn b → b .cb < fixed + banc → r ≡ short (b .cb) fixed banc → r ≡ allocationUnder b smr banc
+  unfolding allocationUnder
+  under-short r fixed f m p =
+      let k : b .cb < fixedIn b + banc = subst (λ (n : ℕ). b .cb < n + banc) f m in
+      rw (lt-leb (fixedIn b + banc) (b .cb) k) (p ∙ ap (λ (n : ℕ). short (b .cb) n banc) f)

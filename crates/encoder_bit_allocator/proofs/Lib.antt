@@ -1,7 +1,7 @@
-pub mod LayoutLaws
-pub mod RuleLaws
 pub mod HeldLaws
-pub mod WorthLaws
-pub mod CodeLaws
+pub mod RuleLaws
+pub mod LaidLaws
+pub mod CostLaws
 pub mod RunLaws
+pub mod WorthLaws
 pub mod AnswerLaws

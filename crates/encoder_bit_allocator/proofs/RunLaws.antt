@@ -1,102 +1,109 @@
--- The tables that the code lends to the rounds are the rules of the layout, so the rounds end where the definition says.
+-- The tables that the code lends to the rounds are the rules of the entries, so the rounds end where the definition says.
 use mathlib.Core.Path.{_≡_, sym, ap, _∙_, subst}
-use mathlib.Core.List.{List, map}
+use mathlib.Core.List.{List}
 use Prim.Native.Nat.{ℕ, _+_, _-_, _*_, min, _≤_, _<_}
-use native.Mathlib.Nat.{lt-of-lt-of-le}
 use native.Mathlib.Omega.{arith}
-use lib.Dec.{eqb, lit<}
+use lib.Dec.{lit<}
 use lib.Ieee.{Float, nan}
 use lib.ListN.{length, getD}
-use Rattle.bitalloc.specs.declared.BitAllocTable.{BitAllocTable}
-use Rattle.bitalloc.specs.Tables.{rowOf, sblimitOf}
-use Rattle.bitalloc.proofs.RowLaws.{some-place, places-small}
+use Rattle.tables.proofs.Listed.{tabulate-same}
+use Rattle.bitalloc.specs.Tables.{rowOf}
+use Rattle.layout.specs.declared.Layout.{Layout}
+use Rattle.layout.specs.Layout.{fieldsOf, fieldIn, FieldsAre}
+use Rattle.layout.proofs.FieldLaws.{few, carried}
 use Rattle.audio_data.specs.declared.AudioData.{AudioData}
 use Rattle.audio_data.specs.Record.{fresh}
-use Rattle.encoder_bit_budget.specs.declared.FixedBitBudget.{FixedBitBudget}
-use Rattle.encoder_bit_budget.specs.Layout.{fieldsBelow}
 use Rattle.allocation_rounds.specs.declared.Run.{Run}
 use Rattle.allocation_rounds.specs.Rounds.{placeIn, started, ended}
 use Rattle.allocation_rounds.specs.Lent.{lent}
 use Rattle.allocation_rounds.specs.Answers.{Onward}
 use Rattle.allocation_rounds.proofs.Agree.{Agree, same-end}
 use Rattle.allocation_rounds.proofs.OnTheWay.{zeros}
-use Rattle.encoder_bit_allocator.specs.Entries.{Entry, ratioAt, chargeAt, entryIn, entryOf, rulesOf}
 use Rattle.encoder_bit_allocator.specs.declared.Allocation.{Allocation}
-use Rattle.encoder_bit_allocator.specs.Allocation.{stepsOf, withSteps}
-use Rattle.encoder_bit_allocator.specs.Numbering.{numbered, count, placesIn, LaidOut, Topped, Low, Laid, runIn, RunIs, acceptedIn}
-use Rattle.encoder_bit_allocator.proofs.RuleLaws.{numbered-below, entriesBelow, rulesBelow, entries-count, entry-at}
+use Rattle.encoder_bit_allocator.specs.Entries.{Entry, mnrAt, chargeAt, entryIn, entryOf, entriesOf, rulesOf, worstCase}
+use Rattle.encoder_bit_allocator.specs.Allocation.{stepsOf, withSteps, runOf, accepted}
+use Rattle.encoder_bit_allocator.specs.Laid.{LaidOut, TopsTo, CostsAre, RunIs}
+use Rattle.encoder_bit_allocator.proofs.LaidLaws.{entries-count, entry-at, room}
+use Rattle.encoder_bit_allocator.proofs.RuleLaws.{Sound, sound-row}
 
-module _ (t : BitAllocTable) (smr : List (List Float)) (bound channels : ℕ) (low : bound ≤ sblimitOf t) where
-  module _ (fields : ℕ) (counted : fields ≡ count (eqb channels 1) bound (sblimitOf t)) (few : fields ≤ 60) (tops : List ℕ) (ratios : List Float) (charges : List ℕ)
-    (topped : Topped t (eqb channels 1) bound fields tops) (laid : LaidOut t smr (eqb channels 1) bound (16 * fields) ratios charges) where
-    among : (f : ℕ) → f < min fields 64 → f < count (eqb channels 1) bound (sblimitOf t)
-    among f h = let l : f < fields = omega arith in subst (λ (n : ℕ). f < n) counted l
+module _ (l : Layout) (smr : List (List Float)) (costs : List ℕ) where
+  abbrev es : List Entry
+  es = entriesOf l smr costs
 
-    tops-agree : (f : ℕ) → f < min fields 64 → min (getD tops f 0) 15 ≡ length (entryIn (entriesBelow t smr bound channels) f .row) - 1
-    unfolding Topped
+  -- every entry's row is a row of the table
+  pub sound : (f : ℕ) → f < length es → Sound (entryIn es f .row)
+  sound f h =
+      let k : f < length (fieldsOf l) = rw (entries-count l smr costs) at h in
+      subst (λ (e : Entry). Sound (e .row)) (sym (entry-at l smr costs f k)) (sound-row (l .table) (fieldIn (fieldsOf l) f .subband) (carried l f k))
+
+  module _ (fields : ℕ) (counted : fields ≡ length (fieldsOf l)) (tops : List ℕ) (mnrs : List Float) (charges : List ℕ)
+    (topped : TopsTo l fields tops) (laid : LaidOut es (16 * fields) mnrs charges) where
+    many : fields ≡ length es
+    many = counted ∙ sym (entries-count l smr costs)
+
+    within : (f : ℕ) → f < min fields 64 → f < length es
+    within f h = let b : f < fields = omega arith in subst (λ (n : ℕ). f < n) many b
+
+    tops-agree : (f : ℕ) → f < min fields 64 → min (getD tops f 0) 15 ≡ length (entryIn es f .row) - 1
+    unfolding TopsTo
     tops-agree f h =
-        let e = topped f (omega arith) in
-        let s = places-small t (numbered (eqb channels 1) bound f .subband) in
-        let m : min (getD tops f 0) 15 ≡ length (rowOf t (numbered (eqb channels 1) bound f .subband)) - 1 = omega arith in
-        m ∙ ap (λ (x : Entry). length (x .row) - 1) (sym (entry-at t smr bound channels f (among f h)))
-
-    ratios-agree : (f p : ℕ) → f < min fields 64 → p < placesIn t (eqb channels 1) bound f
-      → getD ratios (16 * f + p) nan ≡ ratioAt (entryIn (entriesBelow t smr bound channels) f) p
-    ratios-agree f p h l =
-        let s = places-small t (numbered (eqb channels 1) bound f .subband) in
-        laid .ratio f p l (omega arith) ∙ ap (λ (x : Entry). ratioAt x p) (sym (entry-at t smr bound channels f (among f h)))
-
-    charges-agree : (f p : ℕ) → f < min fields 64 → p < placesIn t (eqb channels 1) bound f
-      → getD charges (16 * f + p) 0 ≡ chargeAt (entryIn (entriesBelow t smr bound channels) f) p
-    charges-agree f p h l =
-        let s = places-small t (numbered (eqb channels 1) bound f .subband) in
-        laid .charge f p l (omega arith) ∙ ap (λ (x : Entry). chargeAt x p) (sym (entry-at t smr bound channels f (among f h)))
-
-    -- up to its top place a field has a place of its row
-    in-row : (f p : ℕ) → f < min fields 64 → p ≤ min (getD tops f 0) 15 → p < placesIn t (eqb channels 1) bound f
-    unfolding Topped
-    in-row f p h l =
-        let e = topped f (omega arith) in
-        let k : 0 < placesIn t (eqb channels 1) bound f = some-place t (numbered (eqb channels 1) bound f .subband)
-            (numbered-below (eqb channels 1) bound (sblimitOf t) f low (among f h)) in
+        let k : f < length (fieldsOf l) = rw (entries-count l smr costs) at (within f h) in
+        let e = topped f (omega arith) ∙ ap (λ (x : Entry). length (x .row) - 1) (sym (entry-at l smr costs f k)) in
+        let s = room l smr costs f in
         omega arith
 
-    agrees : Agree (lent fields tops ratios charges) (rulesBelow t smr bound channels)
+    -- up to its top place a field has a place of its row
+    in-row : (f p : ℕ) → f < min fields 64 → p ≤ min (getD tops f 0) 15 → p < length (entryIn es f .row)
+    in-row f p h b = let s = sound f (within f h) .some in let e = tops-agree f h in omega arith
+
+    agrees : Agree (lent fields tops mnrs charges) (rulesOf es)
     unfolding rulesOf
     agrees = record {
-      fields = (let e : min fields 64 ≡ fields = omega arith in e) ∙ counted ∙ sym (entries-count t smr bound channels);
+      fields = (let n = few l in let e : min fields 64 ≡ fields = omega arith in e) ∙ many;
       top = tops-agree;
-      ratio = λ f p h l. ratios-agree f p h (in-row f p h (let k : p < min (getD tops f 0) 15 = l in omega arith));
-      charge = λ f p h l. charges-agree f p h (in-row f p h l)
+      ratio = λ f p h b. let s = room l smr costs f in
+        let i = in-row f p h (let k : p < min (getD tops f 0) 15 = b in omega arith) in laid .mnr f p i (omega arith);
+      charge = λ f p h b. let s = room l smr costs f in let i = in-row f p h b in laid .charge f p i (omega arith)
     }
 
-    pub run-end : (s : Run) → ended (lent fields tops ratios charges) s ≡ ended (rulesBelow t smr bound channels) s
-    run-end = same-end (lent fields tops ratios charges) (rulesBelow t smr bound channels) agrees
-
--- the fields of a budget are carried
-pub low-fields : (b : FixedBitBudget) (fields : ℕ) → Laid b → fields ≡ count (eqb (b .channels) 1) (b .bound) (b .sblimit) → Low (eqb (b .channels) 1) (b .bound) fields
-low-fields b fields laid e f h =
-    lt-of-lt-of-le (numbered-below (eqb (b .channels) 1) (b .bound) (b .sblimit) f (laid .within) (subst (λ (n : ℕ). f < n) e h)) (laid .few)
-
--- what `run_of` answers
-pub run-is : (b : FixedBitBudget) (smr : List (List Float)) (offered fields : ℕ) (tops : List ℕ) (ratios : List Float) (charges : List ℕ) (s r : Run)
-  → Laid b → fields ≡ count (eqb (b .channels) 1) (b .bound) (b .sblimit) → fields ≤ 60
-  → Topped (b .table) (eqb (b .channels) 1) (b .bound) fields tops → LaidOut (b .table) smr (eqb (b .channels) 1) (b .bound) (16 * fields) ratios charges
-  → s ≡ started offered → Onward s (ended (lent fields tops ratios charges) s) r → RunIs b smr offered r
-unfolding runIn
-run-is b smr offered fields tops ratios charges s r laid counted few topped table started-at o = record {
-  whole = o .whole ∙ ap (ended (lent fields tops ratios charges)) started-at
-    ∙ run-end (b .table) smr (b .bound) (b .channels) (rw (laid .limit) at (laid .within)) fields (rw (laid .limit) at counted) few tops ratios charges topped table (started offered)
-    ∙ ap (λ (n : ℕ). ended (rulesOf (map (entryOf (b .table) smr) (fieldsBelow (b .bound) (b .channels) n))) (started offered)) (sym (laid .limit));
-  small = λ f. o .small f (subst (λ (n : ℕ). n < 16) (sym (ap (λ (s : Run). placeIn (s .places) f) started-at ∙ zeros 64 f)) (lit< tt))
-}
+    -- what `run_of` answers
+    pub run-is : (offered : ℕ) (s r : Run) → s ≡ started offered → Onward s (ended (lent fields tops mnrs charges) s) r → RunIs l smr costs offered r
+    unfolding runOf
+    run-is offered s r started-at o = record {
+      whole = o .whole ∙ ap (ended (lent fields tops mnrs charges)) started-at ∙ same-end (lent fields tops mnrs charges) (rulesOf es) agrees (started offered);
+      small = λ f. o .small f (subst (λ (n : ℕ). n < 16) (sym (ap (λ (s : Run). placeIn (s .places) f) started-at ∙ zeros 64 f)) (lit< tt))
+    }
 
 -- what `accepted` answers
-pub accepted-in : (b : FixedBitBudget) (smr : List (List Float)) (offered : ℕ) (r : Run) (d : AudioData) (steps : List ℕ) → RunIs b smr offered r
-  → d ≡ fresh (b .table) (b .bound) (b .channels) → steps ≡ stepsOf (fieldsBelow (b .bound) (b .channels) (b .sblimit)) (b .table) (r .places)
-  → _≡_ {A = Allocation} (record { number = 0; audio = withSteps d steps; left = r .left; cb = 0; fixed = 0; banc = 0 }) (acceptedIn b smr offered)
-unfolding acceptedIn
-accepted-in b smr offered r d steps run e q =
+pub accepted-is : (l : Layout) (smr : List (List Float)) (costs : List ℕ) (offered : ℕ) (r : Run) (d : AudioData) (steps : List ℕ) → RunIs l smr costs offered r
+  → d ≡ fresh (l .table) (l .bound) (l .channels) → steps ≡ stepsOf l (r .places)
+  → _≡_ {A = Allocation} (record { number = 0; audio = withSteps d steps; left = r .left; cb = 0; fixed = 0; banc = 0 }) (accepted l smr costs offered)
+unfolding accepted
+accepted-is l smr costs offered r d steps run e q =
     let w = run .whole in
-    let s = q ∙ ap (λ (s : Run). stepsOf (fieldsBelow (b .bound) (b .channels) (b .sblimit)) (b .table) (s .places)) w in
+    let s = q ∙ ap (λ (s : Run). stepsOf l (s .places)) w in
     λ i. record { number = 0; audio = withSteps (e i) (s i); left = w i .left; cb = 0; fixed = 0; banc = 0 }
+
+-- costs that agree at every field make the same entries
+same-entries : (l : Layout) (smr : List (List Float)) (c d : List ℕ) → ((f : ℕ) → f < length (fieldsOf l) → getD c f 0 ≡ getD d f 0)
+  → entriesOf l smr c ≡ entriesOf l smr d
+unfolding entriesOf
+same-entries l smr c d e =
+    tabulate-same (length (fieldsOf l)) _ _ (λ f h. ap (entryOf (l .table) smr (fieldIn (fieldsOf l) f)) (e f h))
+
+pub same-costs : (l : Layout) (smr : List (List Float)) (costs : List ℕ) (offered : ℕ) → CostsAre l costs
+  → accepted l smr costs offered ≡ accepted l smr (worstCase l) offered
+unfolding accepted runOf
+same-costs l smr costs offered c =
+    let s : List Entry → Run = λ es. ended (rulesOf es) (started offered) in
+    ap (λ (es : List Entry). record {
+      number = 0;
+      audio = withSteps (fresh (l .table) (l .bound) (l .channels)) (stepsOf l (s es .places));
+      left = s es .left;
+      cb = 0;
+      fixed = 0;
+      banc = 0
+    }) same
+  where
+    same : entriesOf l smr costs ≡ entriesOf l smr (worstCase l)
+    same = same-entries l smr costs (worstCase l) (c .cost)

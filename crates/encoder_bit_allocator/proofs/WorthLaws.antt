@@ -1,35 +1,34 @@
 -- What the end of the rounds is worth, carried from the places of the fields to the steps of the slots.
 use mathlib.Core.Path.{_≡_, refl, sym, ap, ap₂, _∙_, subst}
-use mathlib.Core.Bool.{Bool, true, false, _||_}
+use mathlib.Core.Bool.{Bool, true, false, cond, _||_}
 use mathlib.Core.List.{List, [], _∷_, map}
 use Prim.Native.Nat.{ℕ, zero, suc, _+_, _-_, _*_, _≤_, _<_}
+use native.Mathlib.Nat.{le-trans}
 use native.Mathlib.Omega.{arith}
-use lib.Dec.{T, eqb}
+use lib.Dec.{T, eqb, lit<, lit≤}
 use lib.Ieee.{Float, binary64, fits, isNan}
 use lib.ListN.{length, getD}
 use borrow.Author.Tests.{eq-eqb}
 use Rattle.tables.specs.Search.{oneOf}
-use Rattle.header.specs.declared.FrameHeader.{FrameHeader}
-use Rattle.header.specs.Header.{channelsOf}
-use Rattle.bitalloc.specs.declared.BitAllocTable.{BitAllocTable}
-use Rattle.bitalloc.specs.Tables.{rowOf, sblimitOf}
-use Rattle.encoder_bit_budget.specs.Layout.{Field, fieldsBelow, fieldsOf, boundIn}
-use Rattle.encoder_bit_budget.specs.Demand.{smrAt}
+use Rattle.bitalloc.specs.Tables.{rowOf}
+use Rattle.layout.specs.declared.Layout.{Layout}
+use Rattle.layout.specs.declared.AllocationField.{AllocationField}
+use Rattle.layout.specs.Slots.{slotOf}
+use Rattle.layout.specs.Layout.{served, fieldsOf, fieldIn}
+use Rattle.layout.proofs.FieldLaws.{few}
+use Rattle.encoder_bit_budget.specs.Demand.{smrAt, smrsOf}
 use Rattle.allocation_rounds.specs.declared.Run.{Run}
 use Rattle.allocation_rounds.specs.Rounds.{Rules, price, placeIn, started, ended}
 use Rattle.allocation_rounds.specs.Promises.{charged, Counting, Spent, Exchanged}
 use Rattle.allocation_rounds.proofs.Floats.{floats}
 use Rattle.allocation_rounds.proofs.OnTheWay.{OnTheWay, end-way, end-over, end-spent}
 use Rattle.allocation_rounds.proofs.Exchange.{end-exchanged}
-use Rattle.encoder_bit_allocator.specs.Entries.{entryOf, rulesOf, entriesOf}
-use Rattle.encoder_bit_allocator.specs.Allocation.{fieldIn, stepsBy, stepsOf, runOf, fieldSteps, placesFrom, NoNan, Worth}
-use Rattle.encoder_bit_allocator.specs.Numbering.{numbered, count}
-use Rattle.encoder_bit_allocator.proofs.LayoutLaws.{Numbered, fields-numbered}
-use Rattle.encoder_bit_allocator.proofs.RuleLaws.{Numbers, rulesBelow, entries-count, counting, rising, up-to-top}
+use Rattle.encoder_bit_allocator.specs.Entries.{Entry, entryIn, entryOf, rulesOf, entriesOf}
+use Rattle.encoder_bit_allocator.specs.Allocation.{stepsBy, stepsOf, runOf, fieldSteps, placesFrom, NoNan, Worth}
+use Rattle.encoder_bit_allocator.proofs.LaidLaws.{entries-count, entry-at}
+use Rattle.encoder_bit_allocator.proofs.RuleLaws.{Numbers, counting, rising, up-to-top}
+use Rattle.encoder_bit_allocator.proofs.RunLaws.{sound}
 use Rattle.encoder_bit_allocator.proofs.HeldLaws.{at-slot, slot-steps, field-steps, places-back}
-
-abbrev getAt : List ℕ → ℕ → ℕ
-getAt xs i = getD xs i 0
 
 -- ---- promises speak of the places only at each field
 
@@ -66,65 +65,57 @@ all-numbers : (smr : List (List Float)) (sb : ℕ) (cs : List ℕ) → ((ch : �
 all-numbers smr sb [] g h = tt
 all-numbers smr sb (c ∷ cs) g h = (h c (one-of-head c cs), g c, all-numbers smr sb cs g (λ ch t. h ch (one-of-tail c ch cs t)))
 
+-- a field serves some channel
+serves-some : (smr : List (List Float)) (x : AllocationField) → 0 < length (smrsOf smr x)
+serves-some smr x = go (x .both)
+  where
+    go : (b : Bool) → 0 < length (map (λ ch. smrAt smr ch (x .subband)) (cond b (0 ∷ 1 ∷ []) (x .channel ∷ [])))
+    go true = lit< tt
+    go false = lit< tt
+
 -- ---- the five parts
 
-pub worth : (h : FrameHeader) (t : BitAllocTable) (smr : List (List Float)) (offered : ℕ) → boundIn h t ≤ sblimitOf t
-  → ((ch sb : ℕ) → T (fits binary64 (smrAt smr ch sb)))
-  → Worth h t smr offered (stepsOf (fieldsOf h t) t (runOf h t smr offered .places)) (runOf h t smr offered .left)
-unfolding fieldsOf entriesOf runOf Numbered rulesOf
-worth h t smr offered low fit = record {
+pub worth : (l : Layout) (smr : List (List Float)) (costs : List ℕ) (offered : ℕ) → ((ch sb : ℕ) → T (fits binary64 (smrAt smr ch sb)))
+  → Worth l smr costs offered (stepsOf l (runOf l smr costs offered .places)) (runOf l smr costs offered .left)
+unfolding runOf rulesOf
+worth l smr costs offered fit = record {
   ends = refl;
   leaves = refl;
   over = end-over R C offered;
   accounted = ap (λ (k : ℕ). k + end .left) (charged-same R back places (R .fields) same) ∙ way .account;
   spent = spent-same R places back (end .left) same (end-spent R C offered);
-  exchanged = λ none. exchanged-same R places back (end .left) same (end-exchanged floats R C (rising t smr bound channels low (numbers none)) offered);
-  inRow = λ f l. in-row f (rw (ns .0) at l);
-  both = λ f ch l c. both f ch (rw (ns .0) at l) c;
-  elsewhere = λ ch sb c s e. at-slot t bound channels low places fields ch sb c s ∙ ap (stepsBy t places sb) e
+  exchanged = λ none. exchanged-same R places back (end .left) same (end-exchanged floats R C (rising es (sound l smr costs) (numbers none)) offered);
+  inRow = λ f h. ap (λ (p : ℕ). getD (rowOf (l .table) (fieldIn (fieldsOf l) f .subband)) p 0) (places-back l places f h (in-field f h))
+    ∙ sym (field-steps l places f h);
+  both = λ f ch h c. slot-steps l places f h ch c ∙ sym (field-steps l places f h);
+  elsewhere = λ ch sb c s e. at-slot l places ch sb c s ∙ ap (stepsBy (l .table) places sb) e
 }
   where
-    bound : ℕ
-    bound = boundIn h t
-    channels : ℕ
-    channels = channelsOf (h .mode)
-    fields : List Field
-    fields = fieldsBelow bound channels (sblimitOf t)
+    es : List Entry
+    es = entriesOf l smr costs
     R : Rules
-    R = rulesBelow t smr bound channels
+    R = rulesOf es
     C : Counting R
-    C = counting t smr bound channels low
+    C = counting es (sound l smr costs) (rw (entries-count l smr costs) (le-trans (few l) (lit≤ tt)))
     end : Run
     end = ended R (started offered)
     places : List ℕ
     places = end .places
     back : List ℕ
-    back = placesFrom fields t (stepsOf fields t places)
+    back = placesFrom l (stepsOf l places)
     way : OnTheWay R offered end
     way = end-way R C offered
-    ns : Numbered (eqb channels 1) bound channels (sblimitOf t)
-    ns = fields-numbered bound channels (sblimitOf t)
-    in-field : (f : ℕ) → f < count (eqb channels 1) bound (sblimitOf t) → placeIn places f < length (rowOf t (numbered (eqb channels 1) bound f .subband))
-    in-field f l = up-to-top t smr bound channels f (placeIn places f) low l (way .within f (rw (entries-count t smr bound channels) l))
+    field : (f : ℕ) → f < length es → f < length (fieldsOf l)
+    field f h = rw (entries-count l smr costs) at h
+    in-field : (f : ℕ) → f < length (fieldsOf l) → placeIn places f < length (rowOf (l .table) (fieldIn (fieldsOf l) f .subband))
+    in-field f h =
+        let k : f < length es = rw (entries-count l smr costs) h in
+        subst (λ (e : Entry). placeIn places f < length (e .row)) (entry-at l smr costs f h)
+        (up-to-top es (sound l smr costs) f (placeIn places f) k (way .within f k))
     same : (f : ℕ) → f < R .fields → placeIn back f ≡ placeIn places f
-    same f l = let m = rw (entries-count t smr bound channels) at l in places-back t bound channels low places f m (in-field f m)
-    numbers : NoNan fields smr → (f : ℕ) → f < count (eqb channels 1) bound (sblimitOf t) → Numbers (entryOf t smr (numbered (eqb channels 1) bound f) .smr)
-    numbers none f l =
-        let x = numbered (eqb channels 1) bound f in
-        all-numbers smr (x .subband) (x .channels) (λ ch. fit ch (x .subband))
-        (λ ch c. let e = ns .1 f l in
-        subst (λ (x : Field). T (oneOf (x .channels) ch) → isNan (smrAt smr ch (x .subband)) ≡ false) e (none f ch (rw (ns .0) l)) c)
-    in-row : (f : ℕ) → f < count (eqb channels 1) bound (sblimitOf t)
-      → getD (rowOf t (fieldIn fields f .subband)) (placeIn back f) 0 ≡ fieldSteps (stepsOf fields t places) (fieldIn fields f)
-    in-row f l =
-        let e = ns .1 f l in
-        subst (λ (x : Field). getD (rowOf t (x .subband)) (placeIn back f) 0 ≡ fieldSteps (stepsOf fields t places) x) (sym e)
-        (ap (getAt (rowOf t (numbered (eqb channels 1) bound f .subband))) (places-back t bound channels low places f l (in-field f l))
-        ∙ sym (field-steps t bound channels low places f l))
-    both : (f ch : ℕ) → f < count (eqb channels 1) bound (sblimitOf t) → T (oneOf (fieldIn fields f .channels) ch)
-      → getD (stepsOf fields t places) (32 * ch + fieldIn fields f .subband) 0 ≡ fieldSteps (stepsOf fields t places) (fieldIn fields f)
-    both f ch l c =
-        let e = ns .1 f l in
-        subst (λ (x : Field). getD (stepsOf fields t places) (32 * ch + x .subband) 0 ≡ fieldSteps (stepsOf fields t places) x) (sym e)
-        (slot-steps t bound channels low places f ch l (subst (λ (x : Field). T (oneOf (x .channels) ch)) e c)
-        ∙ sym (field-steps t bound channels low places f l))
+    same f h = places-back l places f (field f h) (in-field f (field f h))
+    numbers : NoNan (fieldsOf l) smr → (f : ℕ) → f < length es → (0 < length (entryIn es f .smr)) × Numbers (entryIn es f .smr)
+    numbers none f h =
+        let x = fieldIn (fieldsOf l) f in
+        subst (λ (e : Entry). (0 < length (e .smr)) × Numbers (e .smr)) (sym (entry-at l smr costs f (field f h)))
+        (serves-some smr x, all-numbers smr (x .subband) (served x) (λ ch. fit ch (x .subband)) (λ ch c. none f ch (field f h) c))

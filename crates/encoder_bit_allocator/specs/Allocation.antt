@@ -1,7 +1,7 @@
 -- The allocation of a frame's bits, and what an accepted one is worth.
-use Prim.Native.Nat.{ℕ, _+_, _-_, _*_, _/_, _%_, _<_}
+use Prim.Native.Nat.{ℕ, _+_, _<_}
 use mathlib.Core.Path.{_≡_}
-use mathlib.Core.Bool.{Bool, true, false, cond, _&&_}
+use mathlib.Core.Bool.{true, false, cond}
 use mathlib.Core.List.{List, [], _∷_, _++_, map}
 use mathlib.Core.Option.{Option, none, some}
 use lib.Dec.{T, leb, eqb}
@@ -9,58 +9,52 @@ use lib.Ieee.{Float, isNan}
 use lib.ListN.{length, getD}
 use Rattle.tables.specs.Listed.{tabulate}
 use Rattle.tables.specs.Search.{place, oneOf}
-use Rattle.header.specs.declared.FrameHeader.{FrameHeader}
 use Rattle.header.specs.Questions.{Question, number}
 use Rattle.header.specs.Header.{freeFormat}
 use Rattle.bitalloc.specs.declared.BitAllocTable.{BitAllocTable}
 use Rattle.bitalloc.specs.Tables.{rowOf}
+use Rattle.layout.specs.declared.Layout.{Layout}
+use Rattle.layout.specs.declared.AllocationField.{AllocationField}
+use Rattle.layout.specs.Slots.{slotOf, channelIn, subbandIn}
+use Rattle.layout.specs.Layout.{served, fieldsOf, fieldIn, servedBy}
 use Rattle.audio_data.specs.declared.AudioData.{AudioData}
 use Rattle.audio_data.specs.Record.{fresh, filler}
-use Rattle.encoder_bit_budget.specs.declared.FixedBitBudget.{FixedBitBudget}
-use Rattle.encoder_bit_budget.specs.Layout.{Field, fieldsOf}
-use Rattle.encoder_bit_budget.specs.Budget.{headerAsked, budgetOf, fixedIn}
+use Rattle.encoder_bit_budget.specs.declared.Request.{Request}
+use Rattle.encoder_bit_budget.specs.Budget.{headerAsked, budgetOf, layoutIn, cbOf, fixedOf, offeredOf, natural}
 use Rattle.encoder_bit_budget.specs.Demand.{smrAt}
 use Rattle.allocation_rounds.specs.declared.Run.{Run}
 use Rattle.allocation_rounds.specs.Rounds.{started, ended, placeIn}
 use Rattle.allocation_rounds.specs.Promises.{Over, Accounted, Spent, Exchanged}
 use Rattle.encoder_bit_allocator.specs.declared.Allocation.{Allocation}
-use Rattle.encoder_bit_allocator.specs.Entries.{rulesOf, entriesOf}
+use Rattle.encoder_bit_allocator.specs.Entries.{rulesOf, entriesOf, worstCase}
 
 -- ---- from the places that the fields reach to the steps of the slots
-
-abbrev pub fieldIn : List Field → ℕ → Field
-fieldIn fields f = getD fields f (record { subband = 0; channels = [] })
-
--- whether a field serves a slot
-abbrev pub serves : ℕ → ℕ → Field → Bool
-serves ch sb x = eqb (x .subband) sb && oneOf (x .channels) ch
 
 -- the steps of a slot: those at the place of the field that serves it, and 0 where none does
 abbrev pub stepsBy : BitAllocTable → List ℕ → ℕ → Option ℕ → ℕ
 stepsBy t places sb none = 0
 stepsBy t places sb (some f) = getD (rowOf t sb) (placeIn places f) 0
 
-abbrev pub stepsHeld : List Field → BitAllocTable → List ℕ → ℕ → ℕ → ℕ
-stepsHeld fields t places ch sb = stepsBy t places sb (place (serves ch sb) fields)
+abbrev pub stepsHeld : Layout → List ℕ → ℕ → ℕ → ℕ
+stepsHeld l places ch sb = stepsBy (l .table) places sb (servedBy l ch sb)
 
--- the steps of all slots, slot 32 * channel + subband
-unfoldable pub stepsOf : List Field → BitAllocTable → List ℕ → List ℕ
-stepsOf fields t places = tabulate 64 (λ s. stepsHeld fields t places (s / 32) (s % 32))
+-- the steps of all slots
+unfoldable pub stepsOf : Layout → List ℕ → List ℕ
+stepsOf l places = tabulate 64 (λ s. stepsHeld l places (channelIn s) (subbandIn s))
 
 -- ---- the whole answer
 
 -- question 4: the fixed bits and the caller's fit the frame, as whole numbers
-abbrev pub bitsAsked : FrameHeader → ℕ → Question
-bitsAsked h banc =
-    record { yes = leb (fixedIn (budgetOf h .budget) + banc) (budgetOf h .budget .cb); otherwise = 4 }
+abbrev pub bitsAsked : Request → Question ℕ
+bitsAsked q = record { yes = leb (fixedOf q + q .banc) (cbOf q); otherwise = 4 }
 
-abbrev pub allocationAsked : FrameHeader → ℕ → List Question
-allocationAsked h banc = headerAsked h ++ (bitsAsked h banc ∷ [])
+abbrev pub allocationAsked : Request → List (Question ℕ)
+allocationAsked q = headerAsked (q .header) ++ (bitsAsked q ∷ [])
 
--- where the rounds end over a header's fields, with these ratios and bits offered
-unfoldable pub runOf : FrameHeader → BitAllocTable → List (List Float) → ℕ → Run
+-- where the rounds end over a layout's fields, with these ratios, first steps' costs and bits offered
+unfoldable pub runOf : Layout → List (List Float) → List ℕ → ℕ → Run
 unfolding rulesOf entriesOf
-runOf h t smr offered = ended (rulesOf (entriesOf h t smr)) (started offered)
+runOf l smr costs offered = ended (rulesOf (entriesOf l smr costs)) (started offered)
 
 -- the record of an accepted allocation: the steps, and else what a fresh record has
 abbrev pub withSteps : AudioData → List ℕ → AudioData
@@ -74,14 +68,13 @@ withSteps d steps = record {
   scalefactor = d .scalefactor
 }
 
-unfoldable pub accepted : FrameHeader → FixedBitBudget → List (List Float) → ℕ → Allocation
+unfoldable pub accepted : Layout → List (List Float) → List ℕ → ℕ → Allocation
 unfolding runOf stepsOf
-accepted h b smr banc =
-    let t = b .table in
-    let s = runOf h t smr (b .cb - (fixedIn b + banc)) in
+accepted l smr costs offered =
+    let s = runOf l smr costs offered in
     record {
       number = 0;
-      audio = withSteps (fresh t (b .bound) (b .channels)) (stepsOf (fieldsOf h t) t (s .places));
+      audio = withSteps (fresh (l .table) (l .bound) (l .channels)) (stepsOf l (s .places));
       left = s .left;
       cb = 0;
       fixed = 0;
@@ -92,62 +85,67 @@ accepted h b smr banc =
 abbrev pub refused : ℕ → Allocation
 refused n = record { number = n; audio = filler; left = 0; cb = 0; fixed = 0; banc = 0 }
 
-abbrev pub insufficient : FixedBitBudget → ℕ → Allocation
-insufficient b banc = record { number = 4; audio = filler; left = 0; cb = b .cb; fixed = fixedIn b; banc = banc }
+abbrev pub short : ℕ → ℕ → ℕ → Allocation
+short cb fixed banc = record { number = 4; audio = filler; left = 0; cb = cb; fixed = fixed; banc = banc }
 
-unfoldable pub allocationOf : FrameHeader → List (List Float) → ℕ → Allocation
-unfolding accepted
-allocationOf h smr banc =
-    let n = number (allocationAsked h banc) in
-    let b = budgetOf h .budget in
-    cond (eqb n 0) (accepted h b smr banc) (cond (eqb n 4) (insufficient b banc) (refused n))
+-- the layout of a request that is accepted
+abbrev pub layoutFor : Request → Layout
+layoutFor q = layoutIn (budgetOf q .budget)
+
+unfoldable pub allocationOf : Request → List (List Float) → Allocation
+unfolding accepted worstCase
+allocationOf q smr =
+    let n = number (allocationAsked q) in
+    let l = layoutFor q in
+    cond (eqb n 0) (accepted l smr (worstCase l) (natural (offeredOf q))) (cond (eqb n 4) (short (cbOf q) (fixedOf q) (q .banc)) (refused n))
 
 -- ---- what an accepted allocation is worth, said of its steps and of the bits left
 
 -- the steps that a field holds: those of the slot of its first channel
-abbrev pub fieldSteps : List ℕ → Field → ℕ
-fieldSteps steps x = getD steps (32 * getD (x .channels) 0 0 + x .subband) 0
+abbrev pub fieldSteps : List ℕ → AllocationField → ℕ
+fieldSteps steps x = getD steps (slotOf (x .channel) (x .subband)) 0
 
 -- a field stands at the place of its steps in its row
 abbrev pub orBottom : Option ℕ → ℕ
 orBottom none = 0
 orBottom (some p) = p
 
-abbrev pub standing : BitAllocTable → List ℕ → Field → ℕ
+abbrev pub standing : BitAllocTable → List ℕ → AllocationField → ℕ
 standing t steps x = orBottom (place (λ n. eqb n (fieldSteps steps x)) (rowOf t (x .subband)))
 
-unfoldable pub placesFrom : List Field → BitAllocTable → List ℕ → List ℕ
-placesFrom fields t steps = map (standing t steps) fields
+unfoldable pub placesFrom : Layout → List ℕ → List ℕ
+placesFrom l steps = map (standing (l .table) steps) (fieldsOf l)
 
 -- no ratio that is read is a NaN
-abbrev pub NoNan : List Field → List (List Float) → Type 0
+abbrev pub NoNan : List AllocationField → List (List Float) → Type 0
 NoNan fields smr =
-    (f ch : ℕ) → f < length fields → T (oneOf (fieldIn fields f .channels) ch) → isNan (smrAt smr ch (fieldIn fields f .subband)) ≡ false
+    (f ch : ℕ) → f < length fields → T (oneOf (served (fieldIn fields f)) ch) → isNan (smrAt smr ch (fieldIn fields f .subband)) ≡ false
 
--- The five parts: the rounds end there; charged and left make up what was offered; no affordable step is untaken; the exchange rule;
--- and the steps lie where the fields are. The places in 2 to 4 are read off the steps; `inRow` says that they are the places of the steps.
-pub record Worth (h : FrameHeader) (t : BitAllocTable) (smr : List (List Float)) (offered : ℕ) (steps : List ℕ) (left : ℕ) : Type 0 where
+-- The five parts, whatever the first steps cost: the rounds end there; charged and left make up what was offered; no affordable step is
+-- untaken; the exchange rule; and the steps lie where the fields are. The places in 2 to 4 are read off the steps; `inRow` says that they are
+-- the places of the steps.
+pub record Worth (l : Layout) (smr : List (List Float)) (costs : List ℕ) (offered : ℕ) (steps : List ℕ) (left : ℕ) : Type 0 where
   -- 1
-  pub ends : steps ≡ stepsOf (fieldsOf h t) t (runOf h t smr offered .places)
-  pub leaves : left ≡ runOf h t smr offered .left
-  pub over : Over (rulesOf (entriesOf h t smr)) (runOf h t smr offered)
+  pub ends : steps ≡ stepsOf l (runOf l smr costs offered .places)
+  pub leaves : left ≡ runOf l smr costs offered .left
+  pub over : Over (rulesOf (entriesOf l smr costs)) (runOf l smr costs offered)
   -- 2
-  pub accounted : Accounted (rulesOf (entriesOf h t smr)) offered (placesFrom (fieldsOf h t) t steps) left
+  pub accounted : Accounted (rulesOf (entriesOf l smr costs)) offered (placesFrom l steps) left
   -- 3
-  pub spent : Spent (rulesOf (entriesOf h t smr)) (placesFrom (fieldsOf h t) t steps) left
+  pub spent : Spent (rulesOf (entriesOf l smr costs)) (placesFrom l steps) left
   -- 4
-  pub exchanged : NoNan (fieldsOf h t) smr → Exchanged (rulesOf (entriesOf h t smr)) (placesFrom (fieldsOf h t) t steps) left
+  pub exchanged : NoNan (fieldsOf l) smr → Exchanged (rulesOf (entriesOf l smr costs)) (placesFrom l steps) left
   -- 5; scfsi and scalefactor indices are the filler by `accepted`
-  pub inRow : (f : ℕ) → f < length (fieldsOf h t)
-    → getD (rowOf t (fieldIn (fieldsOf h t) f .subband)) (placeIn (placesFrom (fieldsOf h t) t steps) f) 0 ≡ fieldSteps steps (fieldIn (fieldsOf h t) f)
-  pub both : (f ch : ℕ) → f < length (fieldsOf h t) → T (oneOf (fieldIn (fieldsOf h t) f .channels) ch)
-    → getD steps (32 * ch + fieldIn (fieldsOf h t) f .subband) 0 ≡ fieldSteps steps (fieldIn (fieldsOf h t) f)
-  pub elsewhere : (ch sb : ℕ) → ch < 2 → sb < 32 → place (serves ch sb) (fieldsOf h t) ≡ none → getD steps (32 * ch + sb) 0 ≡ 0
+  pub inRow : (f : ℕ) → f < length (fieldsOf l)
+    → getD (rowOf (l .table) (fieldIn (fieldsOf l) f .subband)) (placeIn (placesFrom l steps) f) 0 ≡ fieldSteps steps (fieldIn (fieldsOf l) f)
+  pub both : (f ch : ℕ) → f < length (fieldsOf l) → T (oneOf (served (fieldIn (fieldsOf l) f)) ch)
+    → getD steps (slotOf ch (fieldIn (fieldsOf l) f .subband)) 0 ≡ fieldSteps steps (fieldIn (fieldsOf l) f)
+  pub elsewhere : (ch sb : ℕ) → ch < 2 → sb < 32 → servedBy l ch sb ≡ none → getD steps (slotOf ch sb) 0 ≡ 0
 
--- What `allocate_bits` promises. Where it accepts, question 4 has made the bits offered a difference that does not fall below 0. A frame in
+-- What an allocation promises. Where it accepts, question 4 has made the bits offered a difference that does not fall below 0. A frame in
 -- free format counts as 0 bytes, 1 with padding: one that gets as far as question 4 is always answered 4.
-pub record AllocationIs (h : FrameHeader) (smr : List (List Float)) (banc : ℕ) (r : Allocation) : Type 0 where
-  pub whole : r ≡ allocationOf h smr banc
+pub record AllocationIs (q : Request) (smr : List (List Float)) (r : Allocation) : Type 0 where
+  pub whole : r ≡ allocationOf q smr
   pub worth : r .number ≡ 0
-    → Worth h (budgetOf h .budget .table) smr (budgetOf h .budget .cb - (fixedIn (budgetOf h .budget) + banc)) (r .audio .«nb_steps») (r .left)
-  pub free : freeFormat h ≡ true → number (headerAsked h) ≡ 0 → r .number ≡ 4
+    → Worth (layoutFor q) smr (worstCase (layoutFor q)) (natural (offeredOf q)) (r .audio .«nb_steps») (r .left)
+  pub free : freeFormat (q .header) ≡ true → number (headerAsked (q .header)) ≡ 0 → r .number ≡ 4

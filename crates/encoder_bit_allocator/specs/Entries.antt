@@ -1,18 +1,21 @@
 -- What the rounds of the allocation read of a frame's fields, and the rules that they go by.
-use Prim.Native.Nat.{ℕ, _+_, _-_}
+use Prim.Native.Nat.{ℕ, _+_, _-_, _≤_}
+use mathlib.Core.Path.{_≡_}
 use mathlib.Core.Bool.{cond}
 use mathlib.Core.List.{List, [], _∷_, map}
 use lib.Dec.{eqb}
 use lib.Ieee.{Float, nan, binary64, neg, sub}
 use lib.ListN.{length, getD}
+use Rattle.tables.specs.Listed.{tabulate}
 use Rattle.ieee_order.specs.Order.{minOf}
-use Rattle.header.specs.declared.FrameHeader.{FrameHeader}
 use Rattle.bitalloc.specs.declared.BitAllocTable.{BitAllocTable}
 use Rattle.bitalloc.specs.Tables.{rowOf}
 use Rattle.bitalloc.specs.Classes.{sampleBits}
+use Rattle.layout.specs.declared.Layout.{Layout}
+use Rattle.layout.specs.declared.AllocationField.{AllocationField}
+use Rattle.layout.specs.Layout.{fieldsOf, fieldIn}
 use Rattle.encoder_bit_budget.specs.Snr.{snr}
-use Rattle.encoder_bit_budget.specs.Layout.{Field, fieldsOf}
-use Rattle.encoder_bit_budget.specs.Demand.{smrAt, firstStep}
+use Rattle.encoder_bit_budget.specs.Demand.{smrsOf, firstStep}
 use Rattle.allocation_rounds.specs.Rounds.{Rules}
 
 -- of a field: the steps at the places of its row, the signal-to-mask ratios of the channels that it serves, and the bits that its first step
@@ -23,8 +26,8 @@ pub record Entry : Type 0 where
   pub first : ℕ
 
 -- a slot's mask-to-noise ratio: minus SMR before its first step, then SNR minus SMR, in one rounding
-abbrev pub slotRatio : ℕ → Float → Float
-slotRatio steps smr = cond (eqb steps 0) (neg smr) (sub binary64 (snr steps) smr)
+abbrev pub slotMnr : ℕ → Float → Float
+slotMnr steps smr = cond (eqb steps 0) (neg smr) (sub binary64 (snr steps) smr)
 
 -- the smaller of the ratios of the channels served; a NaN beside a number yields the number
 abbrev pub least : List Float → Float
@@ -32,14 +35,20 @@ least [] = nan  -- no field serves none
 least (r ∷ []) = r
 least (r ∷ s ∷ rs) = minOf r (least (s ∷ rs))
 
--- a field's ratio at a place
-abbrev pub ratioAt : Entry → ℕ → Float
-ratioAt e p = least (map (slotRatio (getD (e .row) p 0)) (e .smr))
+-- a field's mask-to-noise ratio with these steps, and at a place
+abbrev pub mnrOf : List Float → ℕ → Float
+mnrOf smr steps = least (map (slotMnr steps) smr)
 
--- The bits charged for a field at a place: its samples once, even if it serves two channels, and what the first step costs besides.
+abbrev pub mnrAt : Entry → ℕ → Float
+mnrAt e p = mnrOf (e .smr) (getD (e .row) p 0)
+
+-- The bits charged for a field with these steps: its samples once, even if it serves two channels, and what the first step costs besides.
 -- So the price of a step is the difference of the sample bits, and on the first step that cost.
+abbrev pub charge : ℕ → ℕ → ℕ
+charge steps first = cond (eqb steps 0) 0 (sampleBits steps + first)
+
 abbrev pub chargeAt : Entry → ℕ → ℕ
-chargeAt e p = cond (eqb (getD (e .row) p 0) 0) 0 (sampleBits (getD (e .row) p 0) + e .first)
+chargeAt e p = charge (getD (e .row) p 0) (e .first)
 
 abbrev pub entryIn : List Entry → ℕ → Entry
 entryIn es f = getD es f (record { row = []; smr = []; first = 0 })
@@ -49,17 +58,25 @@ unfoldable pub rulesOf : List Entry → Rules
 rulesOf es = record {
   fields = length es;
   top = λ f. length (entryIn es f .row) - 1;
-  ratio = λ f p. ratioAt (entryIn es f) p;
+  ratio = λ f p. mnrAt (entryIn es f) p;
   charge = λ f p. chargeAt (entryIn es f) p
 }
 
--- a field of a frame as an entry: with the worst case of scfsi and scalefactors as the first step's cost
-abbrev pub entryOf : BitAllocTable → List (List Float) → Field → Entry
-entryOf t smr x = record {
-  row = rowOf t (x .subband);
-  smr = map (λ ch. smrAt smr ch (x .subband)) (x .channels);
-  first = firstStep x
-}
+-- a field as an entry
+abbrev pub entryOf : BitAllocTable → List (List Float) → AllocationField → ℕ → Entry
+entryOf t smr x first = record { row = rowOf t (x .subband); smr = smrsOf smr x; first = first }
 
-unfoldable pub entriesOf : FrameHeader → BitAllocTable → List (List Float) → List Entry
-entriesOf h t smr = map (entryOf t smr) (fieldsOf h t)
+-- the fields of a layout, where `costs` has what the first step of each costs besides its samples
+unfoldable pub entriesOf : Layout → List (List Float) → List ℕ → List Entry
+entriesOf l smr costs =
+    tabulate (length (fieldsOf l)) (λ f. entryOf (l .table) smr (fieldIn (fieldsOf l) f) (getD costs f 0))
+
+-- the worst case of scfsi and scalefactors as the first steps' costs
+unfoldable pub worstCase : Layout → List ℕ
+worstCase l = map firstStep (fieldsOf l)
+
+-- ---- what a function promises
+
+pub record ChargeIs (steps first r : ℕ) : Type 0 where
+  pub whole : r ≡ charge steps first
+  pub most : r ≤ 576 + first

@@ -1,3 +1,3 @@
 pub mod Entries
 pub mod Allocation
-pub mod Numbering
+pub mod Laid

@@ -1,21 +1,21 @@
 // The bit allocation of ISO/IEC 11172-3 C.1.5.2.7: how many steps each slot of a frame gets.
 ghost use mathlib.Core.Path.{_≡_};
-ghost use mathlib.Core.Bool.{false};
-ghost use Prim.Native.Nat.{_+_, _-_, _*_, _/_, _%_, _≤_, _<_};
-ghost use lib.Dec.{eqb};
+ghost use Prim.Native.Nat.{_+_, _-_, _*_, _≤_, _<_};
 ghost use lib.ListN.{length};
 ghost use Rattle.bitalloc.specs.Tables.{rowOf};
-ghost use Rattle.encoder_bit_budget.specs.Layout.{fieldsBelow};
-ghost use Rattle.encoder_bit_allocator.specs.Entries.{slotRatio};
-ghost use Rattle.encoder_bit_allocator.specs.Allocation.{stepsHeld, stepsOf, refused, AllocationIs};
-ghost use Rattle.encoder_bit_allocator.specs.Numbering.{count, serving, fieldOf, ratioBy, chargeBy, FieldIs, LaidOut, Topped, LowAt, Low, Laid, Small, RunIs, acceptedIn};
+ghost use Rattle.layout.specs.Layout.{fieldsOf};
+ghost use Rattle.layout.specs.Slots.{channelIn, subbandIn};
+ghost use Rattle.encoder_bit_budget.specs.Budget.{plain, fixedIn};
+ghost use Rattle.encoder_bit_budget.specs.Demand.{smrsOf};
+ghost use Rattle.encoder_bit_allocator.specs.Entries.{slotMnr, mnrOf, entriesOf, ChargeIs};
+ghost use Rattle.encoder_bit_allocator.specs.Allocation.{stepsHeld, stepsOf, accepted, refused, short, AllocationIs};
+ghost use Rattle.encoder_bit_allocator.specs.Laid.{LaidOut, TopsTo, Modest, CostsAre, Small, RunIs, allocationUnder};
 use allocation_rounds::Run;
 use audio_data::AudioData;
-use bitalloc::BitAllocTable;
-use encoder_bit_budget::Budget;
-use encoder_bit_budget::FixedBitBudget;
-use encoder_bit_budget::OptionF64;
+use bitalloc::{BitAllocTable, OptionU32};
+use encoder_bit_budget::{Budget, FixedBitBudget, OptionF64, Request};
 use header::FrameHeader;
+use layout::{AllocationField, Layout};
 
 // What `allocate_bits` answers: the answer's number; the record with the steps, or the filler; the bits left; and with number 4 the bits of
 // the frame, the fixed ones and the caller's, which are 0 otherwise.
@@ -28,42 +28,9 @@ pub struct Allocation {
     pub banc: u32,
 }
 
-// An allocation field: its subband, and the channel that it serves, or both.
-struct AllocationField {
-    subband: usize,
-    channel: usize,
-    both: bool,
-}
-
-// The field of a number, counted by rising subband, channel 0 first.
-fn field_numbered(bound: usize, channels: usize, number: usize) -> AllocationField
-    requires { ⌜ bound ≤ 30 ⌝ }
-    ensures { λ r. ⌜ FieldIs (eqb channels 1) bound number r ⌝ }
-{
-    if channels == 1 {
-        AllocationField {
-            subband: number,
-            channel: 0,
-            both: false,
-        }
-    } else if number < 2 * bound {
-        AllocationField {
-            subband: number / 2,
-            channel: number % 2,
-            both: false,
-        }
-    } else {
-        AllocationField {
-            subband: number - bound,
-            channel: 0,
-            both: true,
-        }
-    }
-}
-
 // A slot's mask-to-noise ratio with these steps.
-pub fn slot_ratio(nb_steps: u32, smr: f64) -> f64
-    ensures { λ r. ⌜ r ≡ slotRatio «nb_steps» smr ⌝ }
+pub fn slot_mnr(nb_steps: u32, smr: f64) -> f64
+    ensures { λ r. ⌜ r ≡ slotMnr «nb_steps» smr ⌝ }
 {
     if nb_steps == 0 {
         return -smr;
@@ -76,50 +43,46 @@ pub fn slot_ratio(nb_steps: u32, smr: f64) -> f64
 }
 
 // A field's mask-to-noise ratio with these steps: the smaller of its channels'.
-fn ratio_at(smr_db: &[[f64; 32]; 2], field: AllocationField, nb_steps: u32) -> f64
+fn field_mnr(smr_db: &[[f64; 32]; 2], field: AllocationField, nb_steps: u32) -> f64
     requires { ⌜ (field .subband < 32) × (field .channel < 2) ⌝ }
-    ensures { λ r. ⌜ r ≡ ratioBy (now («smr_db» .entry)) (fieldOf field) «nb_steps» ⌝ }
+    ensures { λ r. ⌜ r ≡ mnrOf (smrsOf (now («smr_db» .entry)) field) «nb_steps» ⌝ }
 {
     let sb = field.subband;
     if field.both {
-        let first = slot_ratio(nb_steps, smr_db[0][sb]);
-        let second = slot_ratio(nb_steps, smr_db[1][sb]);
+        let first = slot_mnr(nb_steps, smr_db[0][sb]);
+        let second = slot_mnr(nb_steps, smr_db[1][sb]);
         ieee_order::min(first, second)
     } else {
         let ch = field.channel;
-        slot_ratio(nb_steps, smr_db[ch][sb])
+        slot_mnr(nb_steps, smr_db[ch][sb])
     }
 }
 
-// The bits charged for a field with these steps.
-fn charge_at(field: AllocationField, nb_steps: u32) -> u32
-    ensures { λ r. ⌜ r ≡ chargeBy (fieldOf field) «nb_steps» ⌝ }
+// The bits charged for a field with these steps: its samples once, and what its first step costs besides.
+pub fn charge(nb_steps: u32, first_step: u32) -> u64
+    ensures { λ r. ⌜ ChargeIs «nb_steps» «first_step» r ⌝ }
 {
     if nb_steps == 0 {
         return 0;
     }
-    let samples = bitalloc::sample_bits_for(nb_steps);
-    if field.both {
-        samples + 2 * FixedBitBudget::FIRST_STEP_BITS
-    } else {
-        samples + FixedBitBudget::FIRST_STEP_BITS
-    }
+    (bitalloc::sample_bits_for(nb_steps) as u64) + (first_step as u64)
 }
 
 // The ratios and charges of one field: those at the places of its row, from entry 16 * number on.
 fn lay_field(
-    table: BitAllocTable,
+    layout: Layout,
     smr_db: &[[f64; 32]; 2],
-    bound: usize,
-    channels: usize,
+    costs: &[u32; 64],
     number: usize,
-    ratios: &mut [f64; 1024],
+    mnrs: &mut [f64; 1024],
     charges: &mut [u32; 1024],
 )
-    requires { ⌜ (bound ≤ 30) × (number < 64) × LowAt (eqb channels 1) bound number × LaidOut table (now «smr_db») (eqb channels 1) bound (16 * number) (now ratios) (now charges) ⌝ }
-    ensures { λ _. ⌜ LaidOut table (now («smr_db» .entry)) (eqb channels 1) bound (16 * (number + 1)) (now (ratios .exit)) (now (charges .exit)) ⌝ }
+    requires { ⌜ (number < length (fieldsOf layout)) × (number < 64) × Modest (now costs) × LaidOut (entriesOf layout (now «smr_db») (now costs)) (16 * number) (now mnrs) (now charges) ⌝ }
+    ensures { λ _. ⌜ LaidOut (entriesOf layout (now («smr_db» .entry)) (now (costs .entry))) (16 * (number + 1)) (now (mnrs .exit)) (now (charges .exit)) ⌝ }
 {
-    let field = field_numbered(bound, channels, number);
+    let table = layout.table;
+    let field = layout.field(number);
+    let first_step = costs[number];
     let row = table.row(field.subband);
     let places = table.places(field.subband);
     let start = 16 * number;
@@ -127,40 +90,40 @@ fn lay_field(
     while p < places {
         let nb_steps = row[p];
         let at = start + p;
-        ratios[at] = ratio_at(smr_db, field, nb_steps);
-        charges[at] = charge_at(field, nb_steps);
+        mnrs[at] = field_mnr(smr_db, field, nb_steps);
+        charges[at] = charge(nb_steps, first_step) as u32;
         p = p + 1;
     }
 }
 
 // The tables of ratios and charges, sixteen entries for each field.
 fn lay_out(
-    table: BitAllocTable,
+    layout: Layout,
     smr_db: &[[f64; 32]; 2],
-    bound: usize,
-    channels: usize,
+    costs: &[u32; 64],
     fields: usize,
-    ratios: &mut [f64; 1024],
+    mnrs: &mut [f64; 1024],
     charges: &mut [u32; 1024],
 )
-    requires { ⌜ (bound ≤ 30) × (fields ≤ 64) × Low (eqb channels 1) bound fields × (length (now ratios) ≡ 1024) × (length (now charges) ≡ 1024) ⌝ }
-    ensures { λ _. ⌜ LaidOut table (now («smr_db» .entry)) (eqb channels 1) bound (16 * fields) (now (ratios .exit)) (now (charges .exit)) ⌝ }
+    requires { ⌜ (fields ≡ length (fieldsOf layout)) × Modest (now costs) × (length (now mnrs) ≡ 1024) × (length (now charges) ≡ 1024) ⌝ }
+    ensures { λ _. ⌜ LaidOut (entriesOf layout (now («smr_db» .entry)) (now (costs .entry))) (16 * fields) (now (mnrs .exit)) (now (charges .exit)) ⌝ }
 {
     let mut f: usize = 0;
     while f < fields {
-        lay_field(table, smr_db, bound, channels, f, ratios, charges);
+        lay_field(layout, smr_db, costs, f, mnrs, charges);
         f = f + 1;
     }
 }
 
 // The top place of each field.
-fn lay_tops(table: BitAllocTable, bound: usize, channels: usize, fields: usize, tops: &mut [u8; 64])
-    requires { ⌜ (bound ≤ 30) × (fields ≤ 64) × (length (now tops) ≡ 64) ⌝ }
-    ensures { λ _. ⌜ Topped table (eqb channels 1) bound fields (now (tops .exit)) ⌝ }
+fn lay_tops(layout: Layout, fields: usize, tops: &mut [u8; 64])
+    requires { ⌜ (fields ≡ length (fieldsOf layout)) × (length (now tops) ≡ 64) ⌝ }
+    ensures { λ _. ⌜ TopsTo layout fields (now (tops .exit)) ⌝ }
 {
+    let table = layout.table;
     let mut f: usize = 0;
     while f < fields {
-        let field = field_numbered(bound, channels, f);
+        let field = layout.field(f);
         tops[f] = top_place(table, field.subband);
         f = f + 1;
     }
@@ -178,67 +141,45 @@ fn top_place(table: BitAllocTable, sb: usize) -> u8
     }
 }
 
-// How many fields the layout has.
-fn field_count(bound: usize, channels: usize, sblimit: usize) -> usize
-    requires { ⌜ (bound ≤ sblimit) × (sblimit ≤ 30) ⌝ }
-    ensures { λ r. ⌜ (r ≡ count (eqb channels 1) bound sblimit) × (r ≤ 60) ⌝ }
+// What the first step of each field costs besides its samples, in the worst case.
+fn worst_case(layout: Layout) -> [u32; 64]
+    ensures { λ r. ⌜ CostsAre layout r ⌝ }
 {
-    if channels == 1 {
-        sblimit
-    } else {
-        sblimit + bound
+    let fields = layout.fields();
+    let mut costs = [0; 64];
+    let mut f: usize = 0;
+    while f < fields {
+        costs[f] = encoder_bit_budget::first_step_bits(layout.field(f));
+        f = f + 1;
     }
-}
-
-// The number of the field that serves a slot, with two channels.
-fn field_serving(bound: usize, ch: usize, sb: usize) -> usize
-    requires { ⌜ (ch < 2) × (sb < 30) × (bound ≤ 30) ⌝ }
-    ensures { λ r. ⌜ (r ≡ serving false bound ch sb) × (r < 64) ⌝ }
-{
-    if sb < bound {
-        2 * sb + ch
-    } else {
-        sb + bound
-    }
+    costs
 }
 
 // The steps of a slot: those at the place of the field that serves it, and 0 where none does.
-fn steps_at(b: FixedBitBudget, places: &[u8; 64], slot: usize) -> u32
-    requires { ⌜ (slot < 64) × Laid b × Small (now places) ⌝ }
-    ensures { λ r. ⌜ r ≡ stepsHeld (fieldsBelow (b .bound) (b .channels) (b .sblimit)) (b .table) (now (places .entry)) (slot / 32) (slot % 32) ⌝ }
+fn steps_at(layout: Layout, places: &[u8; 64], slot: usize) -> u32
+    requires { ⌜ (slot < 64) × Small (now places) ⌝ }
+    ensures { λ r. ⌜ r ≡ stepsHeld layout (now (places .entry)) (channelIn slot) (subbandIn slot) ⌝ }
 {
-    let ch = slot / 32;
+    let table = layout.table;
     let sb = slot % 32;
-    let table = b.table;
+    let serving = layout.field_serving(slot / 32, sb);
+    let OptionU32::Some(field) = serving else {
+        return 0;
+    };
+    let place = places[field as usize] as usize;
     let row = table.row(sb);
-    let sblimit = b.sblimit;
-    if sb < sblimit {
-        if b.channels == 1 {
-            if ch == 0 {
-                let place = places[sb] as usize;
-                row[place]
-            } else {
-                0
-            }
-        } else {
-            let field = field_serving(b.bound, ch, sb);
-            let place = places[field] as usize;
-            row[place]
-        }
-    } else {
-        0
-    }
+    row[place]
 }
 
 // The steps of every slot.
-fn steps_held(b: FixedBitBudget, places: &[u8; 64]) -> [u32; 64]
-    requires { ⌜ Laid b × Small (now places) ⌝ }
-    ensures { λ r. ⌜ r ≡ stepsOf (fieldsBelow (b .bound) (b .channels) (b .sblimit)) (b .table) (now (places .entry)) ⌝ }
+fn steps_held(layout: Layout, places: &[u8; 64]) -> [u32; 64]
+    requires { ⌜ Small (now places) ⌝ }
+    ensures { λ r. ⌜ r ≡ stepsOf layout (now (places .entry)) ⌝ }
 {
     let mut steps = [0u32; 64];
     let mut slot: usize = 0;
     while slot < 64 {
-        steps[slot] = steps_at(b, places, slot);
+        steps[slot] = steps_at(layout, places, slot);
         slot = slot + 1;
     }
     steps
@@ -251,7 +192,7 @@ fn no_tops() -> [u8; 64]
     [0; 64]
 }
 
-fn no_ratios() -> [f64; 1024]
+fn no_mnrs() -> [f64; 1024]
     ensures { λ r. ⌜ length r ≡ 1024 ⌝ }
 {
     [0.0; 1024]
@@ -264,33 +205,30 @@ fn no_charges() -> [u32; 1024]
 }
 
 // Where the rounds end that have these bits.
-fn run_of(b: FixedBitBudget, smr_db: &[[f64; 32]; 2], offered: u32) -> Run
-    requires { ⌜ Laid b ⌝ }
-    ensures { λ r. ⌜ RunIs b (now («smr_db» .entry)) offered r ⌝ }
+fn run_of(layout: Layout, smr_db: &[[f64; 32]; 2], costs: &[u32; 64], offered: u32) -> Run
+    requires { ⌜ Modest (now costs) ⌝ }
+    ensures { λ r. ⌜ RunIs layout (now («smr_db» .entry)) (now (costs .entry)) offered r ⌝ }
 {
-    let bound = b.bound;
-    let channels = b.channels;
-    let table = b.table;
-    let fields = field_count(bound, channels, b.sblimit);
+    let fields = layout.fields();
     let mut tops = no_tops();
-    let mut ratios = no_ratios();
+    let mut mnrs = no_mnrs();
     let mut charges = no_charges();
-    lay_tops(table, bound, channels, fields, &mut tops);
-    lay_out(table, smr_db, bound, channels, fields, &mut ratios, &mut charges);
+    lay_tops(layout, fields, &mut tops);
+    lay_out(layout, smr_db, costs, fields, &mut mnrs, &mut charges);
     let run = Run::start(offered);
-    run.finish(fields, &tops, &ratios, &charges)
+    run.finish(fields, &tops, &mnrs, &charges)
 }
 
 // The allocation of the bits offered.
-fn accepted(b: FixedBitBudget, smr_db: &[[f64; 32]; 2], offered: u32) -> Allocation
-    requires { ⌜ Laid b ⌝ }
-    ensures { λ r. ⌜ r ≡ acceptedIn b (now («smr_db» .entry)) offered ⌝ }
+fn accepted(layout: Layout, smr_db: &[[f64; 32]; 2], costs: &[u32; 64], offered: u32) -> Allocation
+    requires { ⌜ Modest (now costs) ⌝ }
+    ensures { λ r. ⌜ r ≡ accepted layout (now («smr_db» .entry)) (now (costs .entry)) offered ⌝ }
 {
-    let table = b.table;
-    let run = run_of(b, smr_db, offered);
-    let mut audio = AudioData::new(table, b.bound, b.channels);
+    let table = layout.table;
+    let run = run_of(layout, smr_db, costs, offered);
+    let mut audio = AudioData::new(table, layout.bound, layout.channels);
     let places = run.places;
-    let nb_steps = steps_held(b, &places);
+    let nb_steps = steps_held(layout, &places);
     audio.nb_steps = nb_steps;
     Allocation {
         number: 0,
@@ -316,29 +254,51 @@ fn refusal(number: u32) -> Allocation
     }
 }
 
-// The steps of each slot, from the signal-to-mask ratios, `banc` ancillary bits set aside.
-pub fn allocate_bits(header: FrameHeader, smr_db: [[f64; 32]; 2], banc: u32) -> Allocation
-    ensures { λ r. ⌜ AllocationIs header «smr_db» banc r ⌝ }
+// What every allocation does with its request.
+fn allocate(request: Request, smr_db: [[f64; 32]; 2]) -> Allocation
+    ensures { λ r. ⌜ AllocationIs request «smr_db» r ⌝ }
 {
-    let budget = encoder_bit_budget::fixed_bit_budget(header);
-    let Budget::Ok(b) = budget else {
-        let number = budget.refusal();
-        return refusal(number);
-    };
-    let cb = b.cb;
+    let budget = request.budget();
+    match budget {
+        Budget::Ok(b) => allocate_under(b, &smr_db, request.banc),
+        Budget::Refused(error) => refusal(error.number()),
+    }
+}
+
+// The same under an accepted budget: the bits are asked, and what they leave is offered to the fields.
+fn allocate_under(b: FixedBitBudget, smr_db: &[[f64; 32]; 2], banc: u32) -> Allocation
+    requires { ⌜ fixedIn b ≤ 236 ⌝ }
+    ensures { λ r. ⌜ r ≡ allocationUnder b (now («smr_db» .entry)) banc ⌝ }
+{
     let fixed = b.fixed();
     let spent = fixed + (banc as u64);
-    if spent <= (cb as u64) {
-        return accepted(b, &smr_db, cb - (spent as u32));
+    if spent <= (b.cb as u64) {
+        let layout = b.layout();
+        let costs = worst_case(layout);
+        accepted(layout, smr_db, &costs, b.cb - (spent as u32))
+    } else {
+        insufficient(b.cb, fixed as u32, banc)
     }
-    let audio = AudioData::filler();
-    let fixed_bits = fixed as u32;
+}
+
+// The frame is too small for its fixed and ancillary bits.
+fn insufficient(cb: u32, fixed: u32, banc: u32) -> Allocation
+    ensures { λ r. ⌜ r ≡ short cb fixed banc ⌝ }
+{
     Allocation {
         number: 4,
-        audio,
+        audio: AudioData::filler(),
         left: 0,
         cb,
-        fixed: fixed_bits,
+        fixed,
         banc,
     }
+}
+
+// The steps of each slot, from the signal-to-mask ratios, `banc` ancillary bits set aside.
+pub fn allocate_bits(header: FrameHeader, smr_db: [[f64; 32]; 2], banc: u32) -> Allocation
+    ensures { λ r. ⌜ AllocationIs (plain header banc) «smr_db» r ⌝ }
+{
+    let request = Request { header, banc };
+    allocate(request, smr_db)
 }

@@ -10,8 +10,15 @@ use mir.Syntax.{w64}
 use mir.Val.{SFits, toZ, ofZ}
 use mir.Facts.{toZ-pos, toZ-ofZ}
 use borrow.Author.Tests.{le-leb, leb-true, leb-false, ltb-true, ltb-false}
-use Rattle.header.specs.declared.FrameHeader.{FrameHeader}
-use Rattle.encoder_bit_budget.specs.Budget.{BudgetAnswer, budgetOf, offeredIn, Available, availableOf}
+use Rattle.encoder_bit_budget.specs.declared.Request.{Request}
+use Rattle.encoder_bit_budget.specs.declared.FixedBitBudget.{FixedBitBudget}
+use Rattle.encoder_bit_budget.specs.declared.BitAllocError.{BitAllocError}
+use Rattle.encoder_bit_budget.specs.declared.BitAllocError.the-variants.{NoBitallocTable, ZeroSampleRate, FrameTooLarge}
+use Rattle.encoder_bit_budget.specs.declared.Budget.{Budget}
+use Rattle.encoder_bit_budget.specs.declared.Budget.the-variants.{Ok, Refused}
+use Rattle.encoder_bit_budget.specs.Budget.{BudgetAnswer, errorNumber, budgetIn, budgetOf, cbOf, fixedIn, Available, availableOf, natural}
+use Rattle.encoder_bit_budget.specs.OnTheWay.{availableBy}
+use Rattle.encoder_bit_budget.proofs.BudgetLaws.{cb-is}
 
 -- ---- a difference below 0 too
 
@@ -43,12 +50,36 @@ module _ (a b : ℕ) (ha : a < 2 ^ 63) (hb : b < 2 ^ 63) where
   pub signed : toZ w64 (ofZ w64 (toZ w64 a -ℤ toZ w64 b)) ≡ minus a b
   signed = toZ-ofZ signed-fits ∙ read
 
+-- ---- the offered bits as a whole number
+
+pub natural-minus : (a b : ℕ) → natural (minus a b) ≡ a - b
+natural-minus a b = go (leb b a) refl
+  where
+    go : (l : Bool) → leb b a ≡ l → natural (cond l (pos (a - b)) (negsuc (b - suc a))) ≡ a - b
+    go true e = refl
+    go false e = let h = leb-false b a e in omega arith
+
 -- ---- the answers
 
--- what the definition makes of the budget's answer
-abbrev availableBy : BudgetAnswer → ℕ → Available
-availableBy a banc = record { answer = a .answer; bits = cond (eqb (a .answer) 0) (offeredIn (a .budget) banc) (pos 0) }
+abbrev offered : Request → BudgetAnswer → Available
+offered q a = record { answer = a .answer; bits = cond (eqb (a .answer) 0) (minus (cbOf q) (fixedIn (a .budget) + q .banc)) (pos 0) }
 
-pub available-by : (h : FrameHeader) (banc : ℕ) (a : BudgetAnswer) (v : Available) → a ≡ budgetOf h → v ≡ availableBy a banc → v ≡ availableOf h banc
-unfolding availableOf
-available-by h banc a v e p = p ∙ ap (λ a. availableBy a banc) e
+pub refused-in : (banc : ℕ) (e : BitAllocError) → record { answer = errorNumber e; bits = pos 0 } ≡ availableBy banc (budgetIn (Refused e))
+unfolding availableBy
+refused-in banc NoBitallocTable = refl
+refused-in banc ZeroSampleRate = refl
+refused-in banc FrameTooLarge = refl
+
+pub accepted-in : (banc : ℕ) (b : FixedBitBudget) (z : ℤ) → z ≡ minus (b .cb) (fixedIn b + banc)
+  → record { answer = 0; bits = z } ≡ availableBy banc (budgetIn (Ok b))
+unfolding availableBy
+accepted-in banc b z e = ap (λ (z : ℤ). record { answer = 0; bits = z }) e
+
+-- the offer by the budget's answer is the definition's
+pub available-is : (q : Request) (r : Budget) (v : Available) → budgetIn r ≡ budgetOf q → v ≡ availableBy (q .banc) (budgetIn r) → v ≡ availableOf q
+unfolding availableOf availableBy
+available-is q (Ok b) v p e =
+    e ∙ ap (λ (c : ℕ). record { answer = 0; bits = minus c (fixedIn b + q .banc) }) (cb-is q b p) ∙ ap (offered q) p
+available-is q (Refused NoBitallocTable) v p e = e ∙ ap (offered q) p
+available-is q (Refused ZeroSampleRate) v p e = e ∙ ap (offered q) p
+available-is q (Refused FrameTooLarge) v p e = e ∙ ap (offered q) p

@@ -1,44 +1,51 @@
 -- Each answer of the budget from what the questions found, and the bounds of an accepted one.
 use mathlib.Core.Path.{_≡_, refl, sym, ap, ap₂, _∙_, subst}
-use mathlib.Core.Bool.{Bool, true, false, cond}
+use mathlib.Core.Bool.{Bool, true, false, not, cond}
 use mathlib.Core.List.{[], _∷_}
-use mathlib.Core.Logic.{⊎-elim}
 use mathlib.Core.Option.{Option, none, some}
 use Prim.Native.Nat.{ℕ, zero, suc, _*_, _≤_, _<_}
 use native.Mathlib.Nat.{mul-le-mul-right}
 use native.Mathlib.Omega.{arith}
-use lib.Dec.{eqb, lit≤}
-use types.Run.{OneOf}
-use denote.Enum.Declared.{tagOf}
+use lib.Dec.{T, leb, eqb, lit≤}
 use borrow.Author.Tests.{le-leb, lt-leb}
 use Rattle.header.specs.declared.FrameHeader.{FrameHeader}
 use Rattle.header.specs.declared.Mode.{Mode}
 use Rattle.header.specs.declared.Mode.the-variants.{Stereo, JointStereo, DualChannel, SingleChannel}
 use Rattle.header.specs.declared.FrameSize.the-variants as Size
 use Rattle.header.specs.Questions.{number}
-use Rattle.header.specs.Header.{channelsOf, boundOf, frameBytes, sizeOf, frameSize}
+use Rattle.header.specs.Header.{channelsOf, boundOf, frameBytes, sizeOf, frameSize, sampleRateAsked}
+use Rattle.header.proofs.QuestionLaws.{said-yes, said-no, refusing}
 use Rattle.bitalloc.specs.declared.BitAllocTable.{BitAllocTable}
 use Rattle.bitalloc.specs.declared.BitAllocTable.the-variants.{B2a, B2b, B2c, B2d, B1Lsf}
+use Rattle.bitalloc.specs.Options.{isSome}
 use Rattle.bitalloc.specs.Tables.{nbalOf, sblimitOf, sumBelow}
 use Rattle.bitalloc.specs.Select.{tableOf}
 use Rattle.bitalloc.proofs.RowLaws.{sblimit-small}
+use Rattle.layout.specs.declared.Layout.{Layout}
+use Rattle.layout.specs.Layout.{fieldsAt, fieldsBelow, fieldsOf, limitOf, layoutOf, sumOver}
+use Rattle.layout.proofs.HeaderLaws.{bound-small}
+use Rattle.layout.proofs.SumLaws.{sum-append, two-at-most, counted}
+use Rattle.encoder_bit_budget.specs.declared.Request.{Request}
 use Rattle.encoder_bit_budget.specs.declared.FixedBitBudget.{FixedBitBudget}
+use Rattle.encoder_bit_budget.specs.declared.BitAllocError.{BitAllocError}
+use Rattle.encoder_bit_budget.specs.declared.BitAllocError.the-variants.{NoBitallocTable, ZeroSampleRate, FrameTooLarge}
 use Rattle.encoder_bit_budget.specs.declared.Budget.{Budget}
-use Rattle.encoder_bit_budget.specs.declared.Budget.the-variants.{Ok, NoBitallocTable, ZeroSampleRate, FrameTooLarge}
-use Rattle.encoder_bit_budget.specs.Layout.{fieldsAt, fieldsBelow, fieldsOf, sharedFrom, boundIn, sumOver}
-use Rattle.encoder_bit_budget.specs.Budget.{cbOf, budgetIn, budgetOf, budgetUnder, headerAsked, acceptedUnder, allocationBits, crcBits, Bounded, BudgetIs}
-use Rattle.encoder_bit_budget.proofs.Budget.{the-type}
-use Rattle.encoder_bit_budget.proofs.FieldLaws.{sum-append, few, counted}
+use Rattle.encoder_bit_budget.specs.declared.Budget.the-variants.{Ok, Refused}
+use Rattle.encoder_bit_budget.specs.Budget.{plain, tableAsked, sizeAsked, headerAsked, errorNumber, cbOf, crcBits, allocationBits, budgetWith, budgetUnder, layoutIn, budgetIn, budgetOf, acceptedUnder, Bounded, BudgetIs}
 
 -- ---- what the frame's size tells
 
-pub sized : (h : FrameHeader) (n : ℕ) → sizeOf (Size.Bytes n) ≡ frameSize h → (eqb (h .«sample_rate») 0 ≡ false) × (n ≡ frameBytes h)
+pub record Sized (h : FrameHeader) (n : ℕ) : Type 0 where
+  pub rated : eqb (h .«sample_rate») 0 ≡ false
+  pub many : n ≡ frameBytes h
+
+pub sized : (h : FrameHeader) (n : ℕ) → sizeOf (Size.Bytes n) ≡ frameSize h → Sized h n
 unfolding frameSize
 sized h n e = go (eqb (h .«sample_rate») 0) refl
   where
-    go : (b : Bool) → eqb (h .«sample_rate») 0 ≡ b → (eqb (h .«sample_rate») 0 ≡ false) × (n ≡ frameBytes h)
+    go : (b : Bool) → eqb (h .«sample_rate») 0 ≡ b → Sized h n
     go true p = let z = ap (λ s. s .answer) e in absurd (omega (arith, rw p at z))
-    go false p = (p, rw p at (ap (λ s. s .bytes) e))
+    go false p = record { rated = p; many = rw p at (ap (λ s. s .bytes) e) }
 
 pub not-sized : (h : FrameHeader) → sizeOf Size.ZeroSampleRate ≡ frameSize h → eqb (h .«sample_rate») 0 ≡ true
 unfolding frameSize
@@ -48,18 +55,47 @@ not-sized h e = go (eqb (h .«sample_rate») 0) refl
     go true p = p
     go false p = let z = ap (λ s. s .answer) e in absurd (omega (arith, rw p at z))
 
+-- ---- what the header's questions are answered
+
+module _ (h : FrameHeader) where
+  pub no-table : tableOf h ≡ none → number (headerAsked h) ≡ 1
+  unfolding headerAsked
+  no-table e = rw e
+
+  module _ (t : BitAllocTable) (named : tableOf h ≡ some t) where
+    after-table : number (headerAsked h) ≡ number (sampleRateAsked h ∷ sizeAsked h ∷ [])
+    unfolding headerAsked
+    after-table = said-yes 0 (tableAsked h) (sampleRateAsked h ∷ sizeAsked h ∷ []) (ap isSome named)
+
+    pub no-rate : eqb (h .«sample_rate») 0 ≡ true → number (headerAsked h) ≡ 2
+    no-rate e = after-table ∙ said-no 0 (sampleRateAsked h) (sizeAsked h ∷ []) (ap not e)
+
+    module _ (rated : eqb (h .«sample_rate») 0 ≡ false) where
+      after-rate : number (headerAsked h) ≡ number (sizeAsked h ∷ [])
+      after-rate = after-table ∙ said-yes 0 (sampleRateAsked h) (sizeAsked h ∷ []) (ap not rated)
+
+      pub too-large : 536_870_911 < frameBytes h → number (headerAsked h) ≡ 3
+      too-large l = after-rate ∙ said-no 0 (sizeAsked h) [] (lt-leb (frameBytes h) 536_870_911 l)
+
+      pub all-asked : frameBytes h ≤ 536_870_911 → number (headerAsked h) ≡ 0
+      all-asked l = after-rate ∙ said-yes 0 (sizeAsked h) [] (le-leb (frameBytes h) 536_870_911 l)
+
+-- each of them refuses by a number that is not 0
+pub refusing-header : (h : FrameHeader) → T (refusing (headerAsked h))
+unfolding headerAsked
+refusing-header h = tt
+
 -- ---- the bounds of an accepted budget
 
 -- each subband's width is counted twice at most
-twice : (t : BitAllocTable) (bound channels n : ℕ)
-  → sumOver (λ x. nbalOf t (x .subband)) (fieldsBelow bound channels n) ≤ 2 * sumBelow n (nbalOf t)
+twice : (l : Layout) (n : ℕ) → sumOver (λ x. nbalOf (l .table) (x .subband)) (fieldsBelow l n) ≤ 2 * sumBelow n (nbalOf (l .table))
 unfolding fieldsBelow
-twice t bound channels zero = lit≤ tt
-twice t bound channels (suc n) =
-    let a = sum-append (λ x. nbalOf t (x .subband)) (fieldsBelow bound channels n) (fieldsAt bound channels n) in
-    let c = counted (nbalOf t) bound channels n in
-    let m = mul-le-mul-right (nbalOf t n) (few bound channels n) in
-    let l = twice t bound channels n in
+twice l zero = lit≤ tt
+twice l (suc n) =
+    let a = sum-append (λ x. nbalOf (l .table) (x .subband)) (fieldsBelow l n) (fieldsAt l n) in
+    let c = counted (nbalOf (l .table)) l n in
+    let m = mul-le-mul-right (nbalOf (l .table) n) (two-at-most l n) in
+    let b = twice l n in
     omega arith
 
 widths : (t : BitAllocTable) → sumBelow (sblimitOf t) (nbalOf t) ≤ 94
@@ -70,19 +106,13 @@ widths B2c = lit≤ tt
 widths B2d = lit≤ tt
 widths B1Lsf = lit≤ tt
 
-allocation-small : (h : FrameHeader) (t : BitAllocTable) → allocationBits h t ≤ 188
+allocation-small : (l : Layout) → allocationBits l ≤ 188
 unfolding allocationBits fieldsOf
-allocation-small h t = let l = twice t (boundIn h t) (channelsOf (h .mode)) (sblimitOf t) in omega (arith, widths t)
+allocation-small l = let b = twice l (limitOf l) in omega (arith, widths (l .table))
 
 crc-small : (b : Bool) → cond b 0 16 ≤ 16
 crc-small true = lit≤ tt
 crc-small false = lit≤ tt
-
-bound-small : (m : Mode) (extension sblimit : ℕ) → sharedFrom m extension sblimit ≤ sblimit
-bound-small Stereo extension sblimit = omega arith
-bound-small JointStereo extension sblimit = omega arith
-bound-small DualChannel extension sblimit = omega arith
-bound-small SingleChannel extension sblimit = omega arith
 
 channels-small : (m : Mode) → channelsOf m ≤ 2
 channels-small Stereo = lit≤ tt
@@ -90,82 +120,105 @@ channels-small JointStereo = lit≤ tt
 channels-small DualChannel = lit≤ tt
 channels-small SingleChannel = lit≤ tt
 
-bounds : (h : FrameHeader) (t : BitAllocTable) → frameBytes h ≤ 536_870_911 → Bounded (budgetUnder h t)
-unfolding budgetUnder
-bounds h t l = record {
-  fixed = omega (arith, crc-small (h .«protection_bit»), allocation-small h t);
+bounds : (q : Request) (t : BitAllocTable) → Bounded (budgetUnder q t)
+unfolding budgetUnder budgetWith layoutOf
+bounds q t = record {
+  fixed = omega (arith, crc-small (q .header .«protection_bit»), allocation-small (layoutOf (q .header) t));
   sblimit = sblimit-small t;
-  bound = bound-small (h .mode) (boundOf (h .«mode_extension»)) (sblimitOf t);
-  channels = channels-small (h .mode)
+  bound = bound-small (q .header .mode) (boundOf (q .header .«mode_extension»)) (sblimitOf t);
+  channels = channels-small (q .header .mode)
 }
 
--- ---- the refusals
+-- ---- as the code fills it in
 
-no-budget : (r : Budget) (n : ℕ) → budgetIn r .answer ≡ suc n → (b : FixedBitBudget) → r ≡ Ok b → Bounded b
-no-budget r n e b p = let z : suc n ≡ 0 = sym e ∙ ap (λ r. budgetIn r .answer) p in absurd (omega arith)
+pub filled : (cb bcrc bbal sblimit : ℕ) (l : Layout) (protection-bit : Bool) → bcrc ≡ crcBits protection-bit → bbal ≡ allocationBits l → sblimit ≡ limitOf l
+  → record { cb = cb; bhdr = 32; bcrc = bcrc; bbal = bbal; sblimit = sblimit; bound = l .bound; channels = l .channels; table = l .table }
+  ≡ budgetWith cb (crcBits protection-bit) l
+unfolding budgetWith
+filled cb bcrc bbal sblimit l protection-bit c b s =
+    λ i. record { cb = cb; bhdr = 32; bcrc = c i; bbal = b i; sblimit = s i; bound = l .bound; channels = l .channels; table = l .table }
 
-pub refused-table : (h : FrameHeader) → tableOf h ≡ none → BudgetIs h NoBitallocTable
-unfolding budgetOf
-refused-table h e = record { whole = rw e; bounded = no-budget NoBitallocTable 0 refl }
+pub under : (q : Request) (t : BitAllocTable) (l : Layout) (n : ℕ) (b : FixedBitBudget) → n ≡ frameBytes (q .header) → l ≡ layoutOf (q .header) t
+  → b ≡ budgetWith (8 * n) (crcBits (q .header .«protection_bit»)) l → b ≡ budgetUnder q t
+unfolding budgetUnder
+under q t l n b e d f = f ∙ ap₂ (λ (m : ℕ) (l : Layout). budgetWith (8 * m) (crcBits (q .header .«protection_bit»)) l) e d
 
-module _ (h : FrameHeader) (t : BitAllocTable) (named : tableOf h ≡ some t) where
-  pub refused-rate : eqb (h .«sample_rate») 0 ≡ true → BudgetIs h ZeroSampleRate
+-- ---- the answers by the number
+
+module _ (q : Request) where
+  refused-is : (e : BitAllocError) → number (headerAsked (q .header)) ≡ errorNumber e → budgetIn (Refused e) ≡ budgetOf q
   unfolding budgetOf
-  refused-rate e = record { whole = rw (named, e); bounded = no-budget ZeroSampleRate 1 refl }
+  refused-is NoBitallocTable n = rw n
+  refused-is ZeroSampleRate n = rw n
+  refused-is FrameTooLarge n = rw n
 
-  pub refused-size : eqb (h .«sample_rate») 0 ≡ false → 536_870_911 < frameBytes h → BudgetIs h FrameTooLarge
-  unfolding budgetOf
-  refused-size e l = record { whole = rw (named, e, lt-leb (frameBytes h) 536_870_911 l); bounded = no-budget FrameTooLarge 2 refl }
+  no-budget : (e : BitAllocError) (b : FixedBitBudget) → Refused e ≡ Ok b → Bounded b
+  no-budget e b p = absurd (let z = ap (λ r. budgetIn r .answer) p in apart e z)
+    where
+      apart : (e : BitAllocError) → errorNumber e ≡ 0 → ⊥
+      apart NoBitallocTable z = omega arith
+      apart ZeroSampleRate z = omega arith
+      apart FrameTooLarge z = omega arith
 
-  pub accepted : (b : FixedBitBudget) → eqb (h .«sample_rate») 0 ≡ false → frameBytes h ≤ 536_870_911 → b ≡ budgetUnder h t → BudgetIs h (Ok b)
+  pub refused : (e : BitAllocError) → number (headerAsked (q .header)) ≡ errorNumber e → BudgetIs q (Refused e)
+  refused e n = record { whole = refused-is e n; bounded = no-budget e }
+
+  pub accepted : (t : BitAllocTable) (b : FixedBitBudget) → tableOf (q .header) ≡ some t → number (headerAsked (q .header)) ≡ 0 → b ≡ budgetUnder q t
+    → BudgetIs q (Ok b)
   unfolding budgetOf
-  accepted b e l p = record {
-    whole = rw (named, e, le-leb (frameBytes h) 536_870_911 l, p);
-    bounded = λ d q. subst Bounded (sym p ∙ held q) (bounds h t l)
+  accepted t b named n p = record {
+    whole = rw (n, named, p);
+    bounded = λ d r. subst Bounded (sym p ∙ held r) (bounds q t)
   }
     where
       held : {c d : FixedBitBudget} → Ok c ≡ Ok d → c ≡ d
       held e = cc
 
-  -- the accepted budget as the code fills it in
-  pub filled : (b : FixedBitBudget) → b .cb ≡ cbOf h → b .bhdr ≡ 32 → b .bcrc ≡ crcBits h → b .sblimit ≡ sblimitOf t
-    → b .bound ≡ sharedFrom (h .mode) (boundOf (h .«mode_extension»)) (b .sblimit) → b .channels ≡ channelsOf (h .mode) → b .table ≡ t
-    → b .bbal ≡ sumOver (λ x. nbalOf t (x .subband)) (fieldsBelow (b .bound) (b .channels) (sblimitOf t)) → b ≡ budgetUnder h t
-  unfolding budgetUnder allocationBits fieldsOf
-  filled b cb bhdr bcrc sblimit shared channels table bbal =
-      let bound = shared ∙ ap (sharedFrom (h .mode) (boundOf (h .«mode_extension»))) sblimit in
-      let sums = bbal ∙ ap₂ (λ (b c : ℕ). sumOver (λ x. nbalOf t (x .subband)) (fieldsBelow b c (sblimitOf t))) bound channels in
-      λ i. record {
-        cb = cb i;
-        bhdr = bhdr i;
-        bcrc = bcrc i;
-        bbal = sums i;
-        sblimit = sblimit i;
-        bound = bound i;
-        channels = channels i;
-        table = table i
-      }
+  -- the ancillary bits are not read
+  same-under : (n : ℕ) (o : Option BitAllocTable) → acceptedUnder (plain (q .header) 0) n o ≡ acceptedUnder q n o
+  unfolding budgetUnder
+  same-under zero none = refl
+  same-under zero (some t) = refl
+  same-under (suc n) o = refl
 
--- ---- what an entry that calls for the budget learns
+  pub same-budget : (r : Budget) → BudgetIs (plain (q .header) 0) r → BudgetIs q r
+  unfolding budgetOf
+  same-budget r b =
+      let n = number (headerAsked (q .header)) in
+      record { whole = b .whole ∙ (λ i. record { answer = n; budget = same-under n (tableOf (q .header)) i }); bounded = b .bounded }
 
--- a refused budget's number is not 0
-pub refused : (r : Budget) → OneOf (1 ∷ 2 ∷ 3 ∷ []) (tagOf the-type r) → eqb (budgetIn r .answer) 0 ≡ false
-refused (Ok b) h = absurd (⊎-elim (λ e. omega arith) (⊎-elim (λ e. omega arith) (λ e. omega arith)) h)
-refused NoBitallocTable h = refl
-refused ZeroSampleRate h = refl
-refused FrameTooLarge h = refl
+  -- ---- what an entry that calls for the budget learns
 
--- an accepted budget is the one under its own table
-pub accepted-is : (h : FrameHeader) (b : FixedBitBudget) → budgetIn (Ok b) ≡ budgetOf h → b ≡ budgetUnder h (b .table)
-unfolding budgetOf
-accepted-is h b e = go (tableOf h) refl
-  where
-    z : 0 ≡ number (headerAsked h)
-    z = ap (λ a. a .answer) e
-    w : b ≡ acceptedUnder h 0 (tableOf h)
-    w = subst (λ (n : ℕ). b ≡ acceptedUnder h n (tableOf h)) (sym z) (ap (λ a. a .budget) e)
-    go : (o : Option BitAllocTable) → tableOf h ≡ o → b ≡ budgetUnder h (b .table)
-    go none p = let q = rw p at z in absurd (omega arith)
-    go (some t) p =
-        let q = subst (λ o. b ≡ acceptedUnder h 0 o) p w in
-        q ∙ ap (budgetUnder h) (sym (ap (λ b. b .table) q))
+  pub answer-is : budgetOf q .answer ≡ number (headerAsked (q .header))
+  unfolding budgetOf
+  answer-is = refl
+
+  table-of : (b : FixedBitBudget) (t : BitAllocTable) → b ≡ budgetUnder q t → b .table ≡ t
+  unfolding budgetUnder budgetWith layoutOf
+  table-of b t r = ap (λ b. b .table) r
+
+  module _ (b : FixedBitBudget) (ok : budgetIn (Ok b) ≡ budgetOf q) where
+    -- an accepted budget is the one under its own table
+    pub accepted-is : b ≡ budgetUnder q (b .table)
+    unfolding budgetOf
+    accepted-is = go (tableOf (q .header)) refl
+      where
+        z : 0 ≡ number (headerAsked (q .header))
+        z = ap (λ a. a .answer) ok
+        w : b ≡ acceptedUnder q 0 (tableOf (q .header))
+        w = subst (λ (n : ℕ). b ≡ acceptedUnder q n (tableOf (q .header))) (sym z) (ap (λ a. a .budget) ok)
+        go : (o : Option BitAllocTable) → tableOf (q .header) ≡ o → b ≡ budgetUnder q (b .table)
+        go none p = let n : _≡_ {A = ℕ} 0 1 = z ∙ no-table (q .header) p in absurd (omega arith)
+        go (some t) p =
+            let r = subst (λ o. b ≡ acceptedUnder q 0 o) p w in
+            r ∙ ap (budgetUnder q) (sym (table-of b t r))
+
+    -- its fields are those of the header's layout
+    pub layout-is : layoutIn b ≡ layoutOf (q .header) (b .table)
+    unfolding budgetUnder budgetWith layoutOf
+    layout-is = ap layoutIn accepted-is
+
+    -- its bits are the frame's
+    pub cb-is : b .cb ≡ cbOf q
+    unfolding budgetUnder budgetWith
+    cb-is = ap (λ b. b .cb) accepted-is

@@ -1,39 +1,39 @@
--- What `demand_bits` finds on its way is the definition's: the steps that a ratio needs, a field's bits, a subband's row and fields, the answer.
+-- What `demand_bits` finds on its way is the definition's: the steps that a ratio needs, a field's bits, a subband's row, a field's demand, the answer.
 use mathlib.Core.Path.{_≡_, refl, sym, ap, ap₂, _∙_}
 use mathlib.Core.Bool.{Bool, true, false, cond}
-use mathlib.Core.List.{List}
-use Prim.Native.Nat.{ℕ, _+_, _-_, _*_, _%_, _^_, _≤_, _<_}
+use mathlib.Core.List.{List, [], _∷_}
+use Prim.Native.Nat.{ℕ, _+_, _-_, _*_, _≤_, _<_}
 use native.Mathlib.Decide.{decLt}
 use native.Mathlib.Nat.{le-refl}
 use borrow.Author.Count.{below-more}
 use native.Mathlib.Omega.{arith}
 use lib.ListN.{length, getD, take, drop, length-drop}
-use lib.Pow.{pow-pos}
-use lib.Dec.{eqb, ltb, lit≤}
+use lib.Dec.{eqb, lit≤}
 use lib.Seq.{ext-getD, length-take-le, getD-take, getD-drop}
 use lib.Ieee.{Float, fin, le}
 use lib.IntN.{pos}
-use borrow.Author.Tests.{lt-ltb, le-ltb, eq-eqb, ne-eqb}
 use Rattle.tables.specs.Listed.{tabulate}
 use Rattle.tables.proofs.Listed.{tabulated, length-tabulate}
 use Rattle.ieee_order.specs.Order.{maxOf}
 use Rattle.bitalloc.specs.declared.BitAllocTable.{BitAllocTable}
-use Rattle.bitalloc.specs.Tables.{NbalIs, nbalOf, rowOf, sblimitOf}
+use Rattle.bitalloc.specs.Tables.{rowOf, sblimitOf}
 use Rattle.bitalloc.specs.Storage.{rowOf16}
-use Rattle.bitalloc.proofs.RowLaws.{row-rule, some-places, places-small}
+use Rattle.bitalloc.proofs.RowLaws.{some-place, places-small}
 use Rattle.bitalloc.specs.Classes.{sampleBits}
 use Rattle.tables.proofs.Search.{find-found, find-missing}
 use Rattle.header.specs.declared.FrameHeader.{FrameHeader}
+use Rattle.layout.specs.declared.Layout.{Layout}
+use Rattle.layout.specs.declared.AllocationField.{AllocationField}
 use Rattle.encoder_bit_budget.specs.declared.FixedBitBudget.{FixedBitBudget}
-use Rattle.encoder_bit_budget.specs.declared.Budget.the-variants.{Ok}
+use Rattle.encoder_bit_budget.specs.declared.BitAllocError.{BitAllocError}
+use Rattle.encoder_bit_budget.specs.declared.BitAllocError.the-variants.{NoBitallocTable, ZeroSampleRate, FrameTooLarge}
+use Rattle.encoder_bit_budget.specs.declared.Budget.the-variants.{Ok, Refused}
 use Rattle.encoder_bit_budget.specs.declared.DemandBits.{DemandBits}
-use Rattle.encoder_bit_budget.specs.declared.DemandBits.the-variants.{Bits}
-use Rattle.encoder_bit_budget.specs.Budget.{BudgetAnswer, budgetIn, budgetOf}
+use Rattle.encoder_bit_budget.specs.declared.DemandBits.the-variants as Demand
+use Rattle.encoder_bit_budget.specs.Budget.{BudgetAnswer, plain, errorNumber, budgetIn, budgetOf, layoutIn}
 use Rattle.encoder_bit_budget.specs.Snr.{snr}
-use Rattle.encoder_bit_budget.specs.Demand.{neededSteps, neededBits, orTop, smrAt, fieldDemand, demandUnder, Demanded, demandIn, demandOf, DemandIs}
-use Rattle.encoder_bit_budget.specs.Layout.{fieldsAt, fieldsBelow, fieldsOf, sumOver}
-use Rattle.encoder_bit_budget.proofs.FieldLaws.{fieldsBy}
-use Rattle.encoder_bit_budget.proofs.BudgetLaws.{accepted-is}
+use Rattle.encoder_bit_budget.specs.Demand.{neededSteps, neededBits, orTop, smrAt, smrsOf, most, layoutDemand, Demanded, demandOf, FirstStepIs, DemandIs}
+use Rattle.encoder_bit_budget.specs.OnTheWay.{demandBy, NeededIs, FieldDemandIs, LayoutDemandIs, DemandInIs}
 
 -- ---- the steps that a ratio needs, by a search along the first places of a row
 
@@ -113,54 +113,57 @@ taken-back xs l =
     (λ k h. let m : k < length xs = rw e at h in
     getD-take (length xs) row k 0 m ∙ tabulated 16 (λ p. getD xs p 0) k 0 (omega arith))
 
-pub row-read : (t : BitAllocTable) (sb nbal : ℕ) (row : List ℕ) → sb < sblimitOf t → NbalIs t sb nbal → row ≡ rowOf16 t sb
-  → RowRead t sb ((1 * 2 ^ nbal) % 2 ^ 64) row
+pub row-read : (t : BitAllocTable) (sb places : ℕ) (row : List ℕ) → sb < sblimitOf t → places ≡ length (rowOf t sb) → row ≡ rowOf16 t sb
+  → RowRead t sb places row
 unfolding rowOf16
-row-read t sb nbal row h n e =
-    let r = row-rule t sb h in
-    let p = some-places t sb nbal n (λ z. let w : nbal ≡ nbalOf t sb = n .whole in let l = r .least in omega arith) in
-    record {
-      taken = ap₂ (λ (m : ℕ) (row : List ℕ). take m row) p e ∙ taken-back (rowOf t sb) (places-small t sb);
-      least = rw (p, r .places) (pow-pos (nbalOf t sb));
-      most = rw p (places-small t sb);
-      long = ap length e ∙ length-tabulate 16 (λ p. getD (rowOf t sb) p 0)
-    }
+row-read t sb places row h p e = record {
+  taken = ap₂ (λ (m : ℕ) (row : List ℕ). take m row) p e ∙ taken-back (rowOf t sb) (places-small t sb);
+  least = rw p (some-place t sb h);
+  most = rw p (places-small t sb);
+  long = ap length e ∙ length-tabulate 16 (λ p. getD (rowOf t sb) p 0)
+}
 
--- ---- a subband's fields
+-- ---- a field
 
-module _ (t : BitAllocTable) (smr : List (List Float)) (bound channels sb : ℕ) (row : List ℕ) (taken : row ≡ rowOf t sb) where
-  pub in-mono : (a : ℕ) → channels ≡ 1 → a ≡ neededBits row (smrAt smr 0 sb) 20 → a ≡ sumOver (fieldDemand t smr) (fieldsAt bound channels sb)
-  in-mono a one e = rw (eq-eqb channels 1 one) (go (ltb sb bound) (rw taken at e))
-    where
-      go : (own : Bool) → a ≡ neededBits (rowOf t sb) (smrAt smr 0 sb) 20 → a ≡ sumOver (fieldDemand t smr) (fieldsBy own true sb)
-      go true e = omega arith
-      go false e = omega arith
+pub larger : (smr : List (List Float)) (x : AllocationField) (r : Float) → x .both ≡ true → r ≡ maxOf (smrAt smr 0 (x .subband)) (smrAt smr 1 (x .subband))
+  → r ≡ most (smrsOf smr x)
+larger smr x r e m = rw e m
 
-  pub in-own : (a b : ℕ) → (channels ≡ 1 → ⊥) → sb < bound → a ≡ neededBits row (smrAt smr 0 sb) 20 → b ≡ neededBits row (smrAt smr 1 sb) 20
-    → a + b ≡ sumOver (fieldDemand t smr) (fieldsAt bound channels sb)
-  in-own a b two l e f =
-      rw (ne-eqb channels 1 two, lt-ltb sb bound l)
-      (let e′ = rw taken at e in let f′ = rw taken at f in omega arith)
+pub first-step : (x : AllocationField) (b : Bool) (r : ℕ) → x .both ≡ b → r ≡ cond b 40 20 → FirstStepIs x r
+first-step x b r e p = record { whole = rw e (p ∙ go b); most = rw p (small b) }
+  where
+    go : (b : Bool) → cond b 40 20 ≡ 20 * length (cond b (0 ∷ 1 ∷ []) (x .channel ∷ []))
+    go true = refl
+    go false = refl
+    small : (b : Bool) → cond b 40 20 ≤ 40
+    small true = lit≤ tt
+    small false = lit≤ tt
 
-  pub in-shared : (a : ℕ) (m : Float) → (channels ≡ 1 → ⊥) → bound ≤ sb → m ≡ maxOf (smrAt smr 0 sb) (smrAt smr 1 sb) → a ≡ neededBits row m 40
-    → a ≡ sumOver (fieldDemand t smr) (fieldsAt bound channels sb)
-  in-shared a m two l p e = rw (ne-eqb channels 1 two, le-ltb sb bound l) (let e′ = rw (taken, p) at e in omega arith)
+pub field-demand : (t : BitAllocTable) (smr : List (List Float)) (x : AllocationField) (first r : ℕ) (row : List ℕ) (ratio : Float)
+  → row ≡ rowOf t (x .subband) → ratio ≡ most (smrsOf smr x) → FirstStepIs x first → NeededIs row ratio first r → FieldDemandIs t smr x r
+field-demand t smr x first r row ratio e m f n = record {
+  whole = n .whole ∙ (λ i. neededBits (e i) (m i) (f .whole i));
+  most = let a = n .most in let b = f .most in omega arith
+}
 
 -- ---- the answers
 
--- what the definition makes of the budget's answer
-abbrev demandBy : FrameHeader → List (List Float) → BudgetAnswer → Demanded
-demandBy h smr a = record { answer = a .answer; bits = cond (eqb (a .answer) 0) (demandUnder h smr (a .budget .table)) 0 }
+pub refused-in : (smr : List (List Float)) (e : BitAllocError) → DemandInIs (budgetIn (Refused e)) smr (Demand.Refused e)
+refused-in smr e = record { whole = go e; small = lit≤ tt }
+  where
+    go : (e : BitAllocError) → _≡_ {A = Demanded} (record { answer = errorNumber e; bits = 0 }) (demandBy smr (budgetIn (Refused e)))
+    go NoBitallocTable = refl
+    go ZeroSampleRate = refl
+    go FrameTooLarge = refl
 
-pub none-demanded : (h : FrameHeader) (smr : List (List Float)) (a : BudgetAnswer) (r : DemandBits) → a ≡ budgetOf h → demandIn r ≡ demandBy h smr a
-  → demandIn r .bits ≡ 0 → DemandIs h smr r
+pub accepted-in : (smr : List (List Float)) (b : FixedBitBudget) (l : Layout) (bits : ℕ) → l ≡ layoutIn b → LayoutDemandIs l smr bits
+  → DemandInIs (budgetIn (Ok b)) smr (Demand.Bits bits)
+accepted-in smr b l bits e d = record {
+  whole = ap (λ (n : ℕ). record { answer = 0; bits = n }) (d .whole ∙ ap (λ (l : Layout). layoutDemand l smr) e);
+  small = d .most
+}
+
+-- the demand under the budget of a header
+pub demand-is : (h : FrameHeader) (smr : List (List Float)) (a : BudgetAnswer) (r : DemandBits) → a ≡ budgetOf (plain h 0) → DemandInIs a smr r → DemandIs h smr r
 unfolding demandOf
-none-demanded h smr a r e p z = record { whole = p ∙ ap (demandBy h smr) e; small = rw z (lit≤ tt) }
-
-pub demanded : (h : FrameHeader) (smr : List (List Float)) (b : FixedBitBudget) (bits : ℕ) → budgetIn (Ok b) ≡ budgetOf h
-  → bits ≡ sumOver (fieldDemand (b .table) smr) (fieldsBelow (b .bound) (b .channels) (b .sblimit)) → bits ≤ 60 * 616
-  → DemandIs h smr (Bits bits)
-unfolding demandOf fieldsOf
-demanded h smr b bits e p l =
-    let q = ap (λ (c : FixedBitBudget). sumOver (fieldDemand (b .table) smr) (fieldsBelow (c .bound) (c .channels) (c .sblimit))) (accepted-is h b e) in
-    record { whole = ap (λ (n : ℕ). record { answer = 0; bits = n }) (p ∙ q) ∙ ap (demandBy h smr) e; small = l }
+demand-is h smr a r p d = record { whole = d .whole ∙ ap (demandBy smr) p; small = d .small }

@@ -1,6 +1,5 @@
 pub mod SnrLaws
 pub mod RowSnr
-pub mod FieldLaws
 pub mod BudgetLaws
 pub mod AvailableLaws
 pub mod DemandLaws

@@ -23,7 +23,7 @@ use Rattle.bitalloc.specs.Tables.{rowOf, sblimitOf}
 use Rattle.bitalloc.specs.Classes.{classes, classOf, sampleBits, frameBits}
 use Rattle.bitalloc.proofs.RowLaws.{row-rule, row-rises, no-row}
 use Rattle.encoder_bit_budget.specs.Snr.{snrOf, snr, orNan}
-use Rattle.encoder_bit_budget.specs.Budget.{isSome}
+use Rattle.bitalloc.specs.Options.{isSome}
 use Rattle.encoder_bit_budget.proofs.SnrLaws.{keys, RatioRule, ratio-rule, ratio-rises, ratio-le}
 
 -- ---- the numbers of a row

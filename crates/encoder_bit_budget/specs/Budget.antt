@@ -5,65 +5,85 @@ use mathlib.Core.Bool.{Bool, true, false, cond}
 use mathlib.Core.List.{List, [], _∷_}
 use mathlib.Core.Option.{Option, none, some}
 use lib.Dec.{leb, eqb}
-use lib.IntN.{ℤ, pos}
+use lib.IntN.{ℤ, pos, negsuc}
 use lib.Ieee.{minus}
 use Rattle.header.specs.declared.FrameHeader.{FrameHeader}
 use Rattle.header.specs.Questions.{Question, number}
-use Rattle.header.specs.Header.{channelsOf, frameBytes, sampleRateAsked}
+use Rattle.header.specs.Header.{frameBytes, sampleRateAsked}
 use Rattle.bitalloc.specs.declared.BitAllocTable.{BitAllocTable}
 use Rattle.bitalloc.specs.declared.BitAllocTable.the-variants.{B2a}
-use Rattle.bitalloc.specs.Tables.{sblimitOf, nbalOf}
+use Rattle.bitalloc.specs.Options.{isSome}
+use Rattle.bitalloc.specs.Tables.{nbalOf}
 use Rattle.bitalloc.specs.Select.{tableOf}
+use Rattle.layout.specs.declared.Layout.{Layout}
+use Rattle.layout.specs.Layout.{layoutOf, limitOf, fieldsOf, sumOver}
+use Rattle.encoder_bit_budget.specs.declared.Request.{Request}
 use Rattle.encoder_bit_budget.specs.declared.FixedBitBudget.{FixedBitBudget}
+use Rattle.encoder_bit_budget.specs.declared.BitAllocError.{BitAllocError}
+use Rattle.encoder_bit_budget.specs.declared.BitAllocError.the-variants.{NoBitallocTable, ZeroSampleRate, FrameTooLarge}
 use Rattle.encoder_bit_budget.specs.declared.Budget.{Budget}
-use Rattle.encoder_bit_budget.specs.declared.Budget.the-variants.{Ok, NoBitallocTable, ZeroSampleRate, FrameTooLarge}
+use Rattle.encoder_bit_budget.specs.declared.Budget.the-variants.{Ok, Refused}
 use Rattle.encoder_bit_budget.specs.declared.AvailableBits.{AvailableBits}
 use Rattle.encoder_bit_budget.specs.declared.AvailableBits.the-variants as A
-use Rattle.encoder_bit_budget.specs.Layout.{boundIn, fieldsOf, sumOver}
 
--- ---- the questions that every entry with a budget asks first
+-- ---- what is asked
 
-abbrev pub isSome : {A : Type 0} → Option A → Bool
-isSome none = false
-isSome (some x) = true
+-- a header and the caller's ancillary bits
+abbrev pub plain : FrameHeader → ℕ → Request
+plain h banc = record { header = h; banc = banc }
 
 -- question 1: a table is selected
-abbrev pub tableAsked : FrameHeader → Question
+abbrev pub tableAsked : FrameHeader → Question ℕ
 tableAsked h = record { yes = isSome (tableOf h); otherwise = 1 }
 
 -- question 3: the frame's bits fit 32 bits
-abbrev pub sizeAsked : FrameHeader → Question
+abbrev pub sizeAsked : FrameHeader → Question ℕ
 sizeAsked h = record { yes = leb (frameBytes h) 536_870_911; otherwise = 3 }
 
-abbrev pub headerAsked : FrameHeader → List Question
+-- the questions that every entry with a header asks first
+unfoldable pub headerAsked : FrameHeader → List (Question ℕ)
 headerAsked h = tableAsked h ∷ sampleRateAsked h ∷ sizeAsked h ∷ []
+
+-- the numbers of their refusals
+abbrev pub errorNumber : BitAllocError → ℕ
+errorNumber NoBitallocTable = 1
+errorNumber ZeroSampleRate = 2
+errorNumber FrameTooLarge = 3
 
 -- ---- the budget of an accepted header
 
--- the bits of the frame
-abbrev pub cbOf : FrameHeader → ℕ
-cbOf h = 8 * frameBytes h
+-- cb: the bits of the frame
+abbrev pub cbOf : Request → ℕ
+cbOf q = 8 * frameBytes (q .header)
 
 -- the CRC's bits: protection_bit false says that it is there
-abbrev pub crcBits : FrameHeader → ℕ
-crcBits h = cond (h .«protection_bit») 0 16
+abbrev pub crcBits : Bool → ℕ
+crcBits protection-bit = cond protection-bit 0 16
 
 -- the bits of the allocation fields
-unfoldable pub allocationBits : FrameHeader → BitAllocTable → ℕ
-allocationBits h t = sumOver (λ x. nbalOf t (x .subband)) (fieldsOf h t)
+unfoldable pub allocationBits : Layout → ℕ
+allocationBits l = sumOver (λ x. nbalOf (l .table) (x .subband)) (fieldsOf l)
 
-unfoldable pub budgetUnder : FrameHeader → BitAllocTable → FixedBitBudget
+unfoldable pub budgetWith : ℕ → ℕ → Layout → FixedBitBudget
 unfolding allocationBits
-budgetUnder h t = record {
-  cb = cbOf h;
+budgetWith cb bcrc l = record {
+  cb = cb;
   bhdr = 32;
-  bcrc = crcBits h;
-  bbal = allocationBits h t;
-  sblimit = sblimitOf t;
-  bound = boundIn h t;
-  channels = channelsOf (h .mode);
-  table = t
+  bcrc = bcrc;
+  bbal = allocationBits l;
+  sblimit = limitOf l;
+  bound = l .bound;
+  channels = l .channels;
+  table = l .table
 }
+
+unfoldable pub budgetUnder : Request → BitAllocTable → FixedBitBudget
+unfolding budgetWith
+budgetUnder q t = budgetWith (cbOf q) (crcBits (q .header .«protection_bit»)) (layoutOf (q .header) t)
+
+-- the layout that a budget is of
+abbrev pub layoutIn : FixedBitBudget → Layout
+layoutIn b = record { table = b .table; bound = b .bound; channels = b .channels }
 
 -- the header, the CRC and the allocation fields
 abbrev pub fixedIn : FixedBitBudget → ℕ
@@ -82,25 +102,29 @@ pub record BudgetAnswer : Type 0 where
 -- what each case of the enum stands for
 abbrev pub budgetIn : Budget → BudgetAnswer
 budgetIn (Ok b) = record { answer = 0; budget = b }
-budgetIn NoBitallocTable = record { answer = 1; budget = noBudget }
-budgetIn ZeroSampleRate = record { answer = 2; budget = noBudget }
-budgetIn FrameTooLarge = record { answer = 3; budget = noBudget }
+budgetIn (Refused e) = record { answer = errorNumber e; budget = noBudget }
 
 -- under a number, the budget with the table that was selected
-abbrev pub acceptedUnder : FrameHeader → ℕ → Option BitAllocTable → FixedBitBudget
-acceptedUnder h zero (some t) = budgetUnder h t
-acceptedUnder h zero none = noBudget  -- question 1 has asked for a table
-acceptedUnder h (suc n) o = noBudget
+abbrev pub acceptedUnder : Request → ℕ → Option BitAllocTable → FixedBitBudget
+acceptedUnder q zero (some t) = budgetUnder q t
+acceptedUnder q zero none = noBudget  -- question 1 has asked for a table
+acceptedUnder q (suc n) o = noBudget
 
-unfoldable pub budgetOf : FrameHeader → BudgetAnswer
-unfolding budgetUnder
-budgetOf h = record { answer = number (headerAsked h); budget = acceptedUnder h (number (headerAsked h)) (tableOf h) }
+unfoldable pub budgetOf : Request → BudgetAnswer
+unfolding budgetUnder headerAsked
+budgetOf q =
+    let n = number (headerAsked (q .header)) in
+    record { answer = n; budget = acceptedUnder q n (tableOf (q .header)) }
 
 -- ---- what is offered
 
+-- fixed: the bits that are spent before any sample is coded, by the budget
+abbrev pub fixedOf : Request → ℕ
+fixedOf q = fixedIn (budgetOf q .budget)
+
 -- offered: the frame's bits less the fixed ones and the caller's ancillary bits, as a signed number
-abbrev pub offeredIn : FixedBitBudget → ℕ → ℤ
-offeredIn b banc = minus (b .cb) (fixedIn b + banc)
+abbrev pub offeredOf : Request → ℤ
+offeredOf q = minus (cbOf q) (fixedOf q + q .banc)
 
 -- the answer of `available_data_bits`: its number, and the bits, which are 0 where the header is refused
 pub record Available : Type 0 where
@@ -110,15 +134,18 @@ pub record Available : Type 0 where
 -- what each case of the enum stands for
 abbrev pub availableIn : AvailableBits → Available
 availableIn (A.Bits z) = record { answer = 0; bits = z }
-availableIn A.NoBitallocTable = record { answer = 1; bits = pos 0 }
-availableIn A.ZeroSampleRate = record { answer = 2; bits = pos 0 }
-availableIn A.FrameTooLarge = record { answer = 3; bits = pos 0 }
+availableIn (A.Refused e) = record { answer = errorNumber e; bits = pos 0 }
 
-unfoldable pub availableOf : FrameHeader → ℕ → Available
+unfoldable pub availableOf : Request → Available
 unfolding budgetOf
-availableOf h banc =
-    let a = budgetOf h in
-    record { answer = a .answer; bits = cond (eqb (a .answer) 0) (offeredIn (a .budget) banc) (pos 0) }
+availableOf q =
+    let n = budgetOf q .answer in
+    record { answer = n; bits = cond (eqb n 0) (offeredOf q) (pos 0) }
+
+-- the bits offered as a whole number; 0 where they fall below 0, which question 4 refuses
+abbrev pub natural : ℤ → ℕ
+natural (pos n) = n
+natural (negsuc n) = 0
 
 -- ---- what the functions promise
 
@@ -129,6 +156,6 @@ pub record Bounded (b : FixedBitBudget) : Type 0 where
   pub bound : b .bound ≤ b .sblimit
   pub channels : b .channels ≤ 2
 
-pub record BudgetIs (h : FrameHeader) (r : Budget) : Type 0 where
-  pub whole : budgetIn r ≡ budgetOf h
+pub record BudgetIs (q : Request) (r : Budget) : Type 0 where
+  pub whole : budgetIn r ≡ budgetOf q
   pub bounded : (b : FixedBitBudget) → r ≡ Ok b → Bounded b

@@ -15,19 +15,25 @@ use Rattle.bitalloc.specs.declared.BitAllocTable.{BitAllocTable}
 use Rattle.bitalloc.specs.Tables.{rowOf}
 use Rattle.bitalloc.specs.Classes.{sampleBits}
 use Rattle.tables.specs.Search.{find}
+use Rattle.layout.specs.declared.Layout.{Layout}
+use Rattle.layout.specs.declared.AllocationField.{AllocationField}
+use Rattle.layout.specs.Layout.{served, fieldsOf, sumOver}
 use Rattle.encoder_bit_budget.specs.declared.DemandBits.{DemandBits}
-use Rattle.encoder_bit_budget.specs.declared.DemandBits.the-variants.{Bits, NoBitallocTable, ZeroSampleRate, FrameTooLarge}
+use Rattle.encoder_bit_budget.specs.declared.DemandBits.the-variants.{Bits, Refused}
 use Rattle.encoder_bit_budget.specs.Snr.{snr}
-use Rattle.encoder_bit_budget.specs.Layout.{Field, fieldsOf, sumOver}
-use Rattle.encoder_bit_budget.specs.Budget.{budgetOf}
+use Rattle.encoder_bit_budget.specs.Budget.{plain, errorNumber, budgetOf, layoutIn}
 
 -- The signal-to-mask ratios are two rows of 32, in dB; a slot's is at its channel and subband.
 abbrev pub smrAt : List (List Float) → ℕ → ℕ → Float
 smrAt smr ch sb = getD (getD smr ch []) sb nan
 
+-- the ratios of the channels that a field serves
+abbrev pub smrsOf : List (List Float) → AllocationField → List Float
+smrsOf smr x = map (λ ch. smrAt smr ch (x .subband)) (served x)
+
 -- the bits that a field's first step costs besides its samples: scfsi (2) and three scalefactors (18) for each channel that it serves
-abbrev pub firstStep : Field → ℕ
-firstStep x = 20 * length (x .channels)
+abbrev pub firstStep : AllocationField → ℕ
+firstStep x = 20 * length (served x)
 
 -- the larger of the ratios of the channels that a field serves; a NaN beside a number yields the number
 abbrev pub most : List Float → Float
@@ -48,13 +54,13 @@ unfoldable pub neededBits : List ℕ → Float → ℕ → ℕ
 unfolding neededSteps
 neededBits row r first = cond (le r (fin false 0 (pos 0))) 0 (sampleBits (neededSteps row r) + first)
 
-abbrev pub fieldDemand : BitAllocTable → List (List Float) → Field → ℕ
-fieldDemand t smr x = neededBits (rowOf t (x .subband)) (most (map (λ ch. smrAt smr ch (x .subband)) (x .channels))) (firstStep x)
+abbrev pub fieldDemand : BitAllocTable → List (List Float) → AllocationField → ℕ
+fieldDemand t smr x = neededBits (rowOf t (x .subband)) (most (smrsOf smr x)) (firstStep x)
 
 -- the sum over the fields
-unfoldable pub demandUnder : FrameHeader → List (List Float) → BitAllocTable → ℕ
+unfoldable pub layoutDemand : Layout → List (List Float) → ℕ
 unfolding neededBits
-demandUnder h smr t = sumOver (fieldDemand t smr) (fieldsOf h t)
+layoutDemand l smr = sumOver (fieldDemand (l .table) smr) (fieldsOf l)
 
 -- the answer of `demand_bits`: its number, and the bits, which are 0 where the header is refused
 pub record Demanded : Type 0 where
@@ -64,19 +70,21 @@ pub record Demanded : Type 0 where
 -- what each case of the enum stands for
 abbrev pub demandIn : DemandBits → Demanded
 demandIn (Bits n) = record { answer = 0; bits = n }
-demandIn NoBitallocTable = record { answer = 1; bits = 0 }
-demandIn ZeroSampleRate = record { answer = 2; bits = 0 }
-demandIn FrameTooLarge = record { answer = 3; bits = 0 }
+demandIn (Refused e) = record { answer = errorNumber e; bits = 0 }
 
 unfoldable pub demandOf : FrameHeader → List (List Float) → Demanded
-unfolding demandUnder budgetOf
+unfolding layoutDemand budgetOf
 demandOf h smr =
-    let a = budgetOf h in
-    record { answer = a .answer; bits = cond (eqb (a .answer) 0) (demandUnder h smr (a .budget .table)) 0 }
+    let a = budgetOf (plain h 0) in
+    record { answer = a .answer; bits = cond (eqb (a .answer) 0) (layoutDemand (layoutIn (a .budget)) smr) 0 }
 
--- ---- what the function promises
+-- ---- what the functions promise
 
 -- besides the whole answer a bound: 60 fields at most, of 576 bits of samples and 40 for the first step
 pub record DemandIs (h : FrameHeader) (smr : List (List Float)) (r : DemandBits) : Type 0 where
   pub whole : demandIn r ≡ demandOf h smr
   pub small : demandIn r .bits ≤ 60 * 616
+
+pub record FirstStepIs (x : AllocationField) (r : ℕ) : Type 0 where
+  pub whole : r ≡ firstStep x
+  pub most : r ≤ 40

@@ -1,4 +1,4 @@
 pub mod Snr
-pub mod Layout
 pub mod Budget
 pub mod Demand
+pub mod OnTheWay

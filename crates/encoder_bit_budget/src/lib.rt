@@ -2,17 +2,19 @@
 // terms of the bit allocation of ISO/IEC 11172-3 C.1.5.2.7 and the required bit rate of Annex G.1.
 ghost use mathlib.Core.Path.{_≡_};
 ghost use mathlib.Core.Bool.{cond};
-ghost use Prim.Native.Nat.{_+_, _*_, _≤_, _<_};
+ghost use Prim.Native.Nat.{_≤_, _<_};
 ghost use lib.Ieee.{le};
 ghost use lib.ListN.{length, take};
-ghost use Rattle.header.specs.Header.{boundOf};
-ghost use Rattle.bitalloc.specs.Tables.{sblimitOf, nbalOf};
+ghost use mathlib.Core.Option.{some};
+ghost use Rattle.bitalloc.specs.Tables.{sblimitOf};
+ghost use Rattle.bitalloc.specs.Select.{tableOf};
 ghost use Rattle.encoder_bit_budget.specs.Snr.{decibels, rowNumber, orPast, snrOf, snr, ratioIn};
-ghost use Rattle.encoder_bit_budget.specs.Layout.{fieldsAt, fieldsBelow, sharedFrom, sumOver};
-ghost use Rattle.encoder_bit_budget.specs.Budget.{fixedIn, budgetIn, availableIn, availableOf, BudgetIs};
-ghost use Rattle.encoder_bit_budget.specs.Demand.{neededSteps, neededBits, fieldDemand, demandIn, DemandIs};
+ghost use Rattle.encoder_bit_budget.specs.Budget.{errorNumber, plain, crcBits, allocationBits, fixedIn, layoutIn, budgetWith, budgetIn, availableIn, availableOf, BudgetIs};
+ghost use Rattle.encoder_bit_budget.specs.Demand.{smrsOf, most, neededSteps, demandIn, FirstStepIs, DemandIs};
+ghost use Rattle.encoder_bit_budget.specs.OnTheWay.{availableBy, NeededIs, FieldDemandIs, LayoutDemandIs, DemandInIs};
 use bitalloc::{BitAllocTable, OptionTable};
-use header::{FrameHeader, FrameSize, Mode};
+use header::{FrameHeader, FrameSize};
+use layout::{AllocationField, Layout};
 
 // A number, or nothing.
 pub enum OptionF64 {
@@ -70,6 +72,33 @@ fn snr_in(table: &[f64; 18], nb_steps: u32) -> OptionF64
     }
 }
 
+// What is asked of a frame's bits.
+pub struct Request {
+    pub header: FrameHeader,
+    // The caller's ancillary bits, which are set aside.
+    pub banc: u32,
+}
+
+// Why a header has no budget.
+pub enum BitAllocError {
+    NoBitallocTable,
+    ZeroSampleRate,
+    FrameTooLarge,
+}
+
+impl BitAllocError {
+    // The answer's number.
+    pub fn number(self) -> u32
+        ensures { λ r. ⌜ r ≡ errorNumber self ⌝ }
+    {
+        match self {
+            BitAllocError::NoBitallocTable => 1,
+            BitAllocError::ZeroSampleRate => 2,
+            BitAllocError::FrameTooLarge => 3,
+        }
+    }
+}
+
 // The bits that are spent before any sample is coded.
 pub struct FixedBitBudget {
     // The bits of the frame.
@@ -105,14 +134,24 @@ impl FixedBitBudget {
     {
         (self.bhdr as u64) + (self.bcrc as u64) + (self.bbal as u64)
     }
+
+    // Where the frame's fields are.
+    pub fn layout(self) -> Layout
+        ensures { λ r. ⌜ r ≡ layoutIn self ⌝ }
+    {
+        let table = self.table;
+        Layout {
+            table,
+            bound: self.bound,
+            channels: self.channels,
+        }
+    }
 }
 
 // What `fixed_bit_budget` answers.
 pub enum Budget {
     Ok(FixedBitBudget),
-    NoBitallocTable,
-    ZeroSampleRate,
-    FrameTooLarge,
+    Refused(BitAllocError),
 }
 
 impl Budget {
@@ -122,91 +161,88 @@ impl Budget {
     {
         match self {
             Budget::Ok(_) => 0,
-            Budget::NoBitallocTable => 1,
-            Budget::ZeroSampleRate => 2,
-            Budget::FrameTooLarge => 3,
+            Budget::Refused(error) => error.number(),
         }
     }
+}
+
+impl Request {
+    // The bits that are fixed for the frame.
+    pub fn budget(self) -> Budget
+        ensures { λ r. ⌜ BudgetIs self r ⌝ }
+    {
+        let header = self.header;
+        let selected = bitalloc::select_table(header);
+        match selected {
+            OptionTable::Some(table) => budget_under(header, table),
+            OptionTable::None => Budget::Refused(BitAllocError::NoBitallocTable),
+        }
+    }
+}
+
+// The budget under the table that was selected.
+fn budget_under(header: FrameHeader, table: BitAllocTable) -> Budget
+    requires { ⌜ tableOf header ≡ some table ⌝ }
+    ensures { λ r. ⌜ BudgetIs (plain header 0) r ⌝ }
+{
+    let size = header.frame_size_bytes();
+    let FrameSize::Bytes(bytes) = size else {
+        return Budget::Refused(BitAllocError::ZeroSampleRate);
+    };
+    // From 536,870,912 bytes on the frame's bits do not fit 32 bits.
+    if 536_870_911 < bytes {
+        return Budget::Refused(BitAllocError::FrameTooLarge);
+    }
+    let layout = Layout::of_header(header, table);
+    Budget::Ok(budget_with(8 * (bytes as u32), header.protection_bit, layout))
 }
 
 // The bits that are fixed for a header's frame.
 pub fn fixed_bit_budget(header: FrameHeader) -> Budget
-    ensures { λ r. ⌜ BudgetIs header r ⌝ }
+    ensures { λ r. ⌜ BudgetIs (plain header 0) r ⌝ }
 {
-    let selected = bitalloc::select_table(header);
-    let OptionTable::Some(table) = selected else {
-        return Budget::NoBitallocTable;
-    };
-    let size = header.frame_size_bytes();
-    let FrameSize::Bytes(bytes) = size else {
-        return Budget::ZeroSampleRate;
-    };
-    // From 536,870,912 bytes on the frame's bits do not fit 32 bits.
-    if 536_870_911 < bytes {
-        return Budget::FrameTooLarge;
-    }
-    let sblimit = table.sblimit();
-    let bound = shared_from(header, sblimit);
-    let channels = header.channels();
-    let bcrc = crc_bits(header.protection_bit);
-    let bbal = allocation_bits(table, bound, channels);
-    Budget::Ok(FixedBitBudget {
-        cb: 8 * (bytes as u32),
+    let request = Request { header, banc: 0 };
+    request.budget()
+}
+
+// The budget of a frame of `cb` bits in a layout.
+fn budget_with(cb: u32, protection_bit: bool, layout: Layout) -> FixedBitBudget
+    ensures { λ r. ⌜ r ≡ budgetWith cb (crcBits «protection_bit») layout ⌝ }
+{
+    let table = layout.table;
+    let bcrc = crc_bits(protection_bit);
+    let bbal = allocation_bits(layout);
+    FixedBitBudget {
+        cb,
         bhdr: FixedBitBudget::HEADER_BITS,
         bcrc,
         bbal,
-        sblimit,
-        bound,
-        channels,
+        sblimit: table.sblimit(),
+        bound: layout.bound,
+        channels: layout.channels,
         table,
-    })
+    }
 }
 
 // The CRC is there where the protection bit is 0 (2.4.2.3).
 fn crc_bits(protection_bit: bool) -> u32
-    ensures { λ r. ⌜ r ≡ cond «protection_bit» 0 16 ⌝ }
+    ensures { λ r. ⌜ r ≡ crcBits «protection_bit» ⌝ }
 {
     if protection_bit { 0 } else { FixedBitBudget::CRC_BITS }
 }
 
-// From which subband on the channels share a field: only in joint stereo, as the mode extension says.
-fn shared_from(header: FrameHeader, sblimit: usize) -> usize
-    ensures { λ r. ⌜ r ≡ sharedFrom (header .mode) (boundOf (header .«mode_extension»)) sblimit ⌝ }
-{
-    let mode = header.mode;
-    match mode {
-        Mode::Stereo => sblimit,
-        Mode::JointStereo => {
-            let extension = header.mode_extension;
-            let bound = extension.bound();
-            if bound < sblimit { bound } else { sblimit }
-        }
-        Mode::DualChannel => sblimit,
-        Mode::SingleChannel => sblimit,
-    }
-}
-
-// How many allocation fields a subband has.
-fn fields_in(bound: usize, channels: usize, sb: usize) -> u32
-    ensures { λ r. ⌜ (r ≡ length (fieldsAt bound channels sb)) × (r ≤ 2) ⌝ }
-{
-    if sb < bound {
-        if channels == 1 { 1 } else { 2 }
-    } else {
-        1
-    }
-}
-
 // The bits of all allocation fields.
-fn allocation_bits(table: BitAllocTable, bound: usize, channels: usize) -> u32
-    ensures { λ r. ⌜ r ≡ sumOver (λ x. nbalOf table (x .subband)) (fieldsBelow bound channels (sblimitOf table)) ⌝ }
+fn allocation_bits(layout: Layout) -> u32
+    ensures { λ r. ⌜ r ≡ allocationBits layout ⌝ }
 {
-    let sblimit = table.sblimit();
+    let table = layout.table;
+    let fields = layout.fields();
     let mut bits: u32 = 0;
-    let mut sb: usize = 0;
-    while sb < sblimit {
-        bits = bits + fields_in(bound, channels, sb) * table.nbal(sb);
-        sb = sb + 1;
+    let mut f: usize = 0;
+    while f < fields {
+        let field = layout.field(f);
+        bits = bits + table.nbal(field.subband);
+        f = f + 1;
     }
     bits
 }
@@ -214,9 +250,7 @@ fn allocation_bits(table: BitAllocTable, bound: usize, channels: usize) -> u32
 // What `available_data_bits` answers: the bits, which may be below 0, or the header's refusal.
 pub enum AvailableBits {
     Bits(i64),
-    NoBitallocTable,
-    ZeroSampleRate,
-    FrameTooLarge,
+    Refused(BitAllocError),
 }
 
 impl AvailableBits {
@@ -226,9 +260,7 @@ impl AvailableBits {
     {
         match self {
             AvailableBits::Bits(_) => 0,
-            AvailableBits::NoBitallocTable => 1,
-            AvailableBits::ZeroSampleRate => 2,
-            AvailableBits::FrameTooLarge => 3,
+            AvailableBits::Refused(error) => error.number(),
         }
     }
 
@@ -238,35 +270,36 @@ impl AvailableBits {
     {
         match self {
             AvailableBits::Bits(bits) => bits,
-            AvailableBits::NoBitallocTable => 0,
-            AvailableBits::ZeroSampleRate => 0,
-            AvailableBits::FrameTooLarge => 0,
+            AvailableBits::Refused(_) => 0,
         }
     }
 }
 
 // What the frame offers to samples and scalefactors beside `banc` ancillary bits.
 pub fn available_data_bits(header: FrameHeader, banc: u32) -> AvailableBits
-    ensures { λ r. ⌜ availableIn r ≡ availableOf header banc ⌝ }
+    ensures { λ r. ⌜ availableIn r ≡ availableOf (plain header banc) ⌝ }
 {
-    let budget = fixed_bit_budget(header);
+    let request = Request { header, banc };
+    available_in(request.budget(), banc)
+}
+
+// What a budget offers.
+fn available_in(budget: Budget, banc: u32) -> AvailableBits
+    ensures { λ r. ⌜ availableIn r ≡ availableBy banc (budgetIn budget) ⌝ }
+{
     match budget {
         Budget::Ok(b) => {
             let spent = b.fixed() + (banc as u64);
             AvailableBits::Bits((b.cb as i64) - (spent as i64))
         }
-        Budget::NoBitallocTable => AvailableBits::NoBitallocTable,
-        Budget::ZeroSampleRate => AvailableBits::ZeroSampleRate,
-        Budget::FrameTooLarge => AvailableBits::FrameTooLarge,
+        Budget::Refused(error) => AvailableBits::Refused(error),
     }
 }
 
 // What `demand_bits` answers: the bits, or the header's refusal.
 pub enum DemandBits {
     Bits(u64),
-    NoBitallocTable,
-    ZeroSampleRate,
-    FrameTooLarge,
+    Refused(BitAllocError),
 }
 
 impl DemandBits {
@@ -276,9 +309,7 @@ impl DemandBits {
     {
         match self {
             DemandBits::Bits(_) => 0,
-            DemandBits::NoBitallocTable => 1,
-            DemandBits::ZeroSampleRate => 2,
-            DemandBits::FrameTooLarge => 3,
+            DemandBits::Refused(error) => error.number(),
         }
     }
 
@@ -288,9 +319,7 @@ impl DemandBits {
     {
         match self {
             DemandBits::Bits(bits) => bits,
-            DemandBits::NoBitallocTable => 0,
-            DemandBits::ZeroSampleRate => 0,
-            DemandBits::FrameTooLarge => 0,
+            DemandBits::Refused(_) => 0,
         }
     }
 }
@@ -300,58 +329,71 @@ impl DemandBits {
 pub fn demand_bits(header: FrameHeader, smr_db: [[f64; 32]; 2]) -> DemandBits
     ensures { λ r. ⌜ DemandIs header «smr_db» r ⌝ }
 {
-    let budget = fixed_bit_budget(header);
+    demand_in(fixed_bit_budget(header), &smr_db)
+}
+
+// What is demanded under a budget.
+fn demand_in(budget: Budget, smr_db: &[[f64; 32]; 2]) -> DemandBits
+    ensures { λ r. ⌜ DemandInIs (budgetIn budget) (now («smr_db» .entry)) r ⌝ }
+{
     match budget {
-        Budget::Ok(b) => DemandBits::Bits(demand_under(b, &smr_db)),
-        Budget::NoBitallocTable => DemandBits::NoBitallocTable,
-        Budget::ZeroSampleRate => DemandBits::ZeroSampleRate,
-        Budget::FrameTooLarge => DemandBits::FrameTooLarge,
+        Budget::Ok(b) => DemandBits::Bits(layout_demand(b.layout(), smr_db)),
+        Budget::Refused(error) => DemandBits::Refused(error),
     }
 }
 
-// The demand of all fields of a budget.
-fn demand_under(b: FixedBitBudget, smr_db: &[[f64; 32]; 2]) -> u64
-    requires { ⌜ (b .sblimit ≡ sblimitOf (b .table)) × (b .sblimit ≤ 30) ⌝ }
-    ensures { λ r. ⌜ (r ≡ sumOver (fieldDemand (b .table) (now («smr_db» .entry))) (fieldsBelow (b .bound) (b .channels) (b .sblimit))) × (r ≤ 60 * 616) ⌝ }
+// The demand of all fields of a layout.
+fn layout_demand(layout: Layout, smr_db: &[[f64; 32]; 2]) -> u64
+    ensures { λ r. ⌜ LayoutDemandIs layout (now («smr_db» .entry)) r ⌝ }
 {
-    let table = b.table;
-    let bound = b.bound;
-    let channels = b.channels;
-    let sblimit = b.sblimit;
+    let table = layout.table;
+    let fields = layout.fields();
     let mut bits: u64 = 0;
-    let mut sb: usize = 0;
-    while sb < sblimit {
-        bits = bits + subband_demand(table, bound, channels, sb, smr_db);
-        sb = sb + 1;
+    let mut f: usize = 0;
+    while f < fields {
+        let field = layout.field(f);
+        bits = bits + field_demand(table, field, smr_db);
+        f = f + 1;
     }
     bits
 }
 
-// The demand of a subband's fields: below the bound each channel's own, from there on one for both, which pays its samples once and the
-// first step of each channel.
-fn subband_demand(table: BitAllocTable, bound: usize, channels: usize, sb: usize, smr_db: &[[f64; 32]; 2]) -> u64
-    requires { ⌜ sb < sblimitOf table ⌝ }
-    ensures { λ r. ⌜ (r ≡ sumOver (fieldDemand table (now («smr_db» .entry))) (fieldsAt bound channels sb)) × (r ≤ 1232) ⌝ }
+// The demand of a field, which pays its samples once and the first step of each channel that it serves.
+fn field_demand(table: BitAllocTable, field: AllocationField, smr_db: &[[f64; 32]; 2]) -> u64
+    requires { ⌜ (field .subband < sblimitOf table) × (field .channel < 2) ⌝ }
+    ensures { λ r. ⌜ FieldDemandIs table (now («smr_db» .entry)) field r ⌝ }
 {
-    let row = table.row(sb);
-    let places = 1 << table.nbal(sb);
-    let first_step = FixedBitBudget::FIRST_STEP_BITS;
-    let smr0 = smr_db[0][sb];
-    if channels == 1 {
-        return needed_bits(&row, places, smr0, first_step);
-    }
-    let smr1 = smr_db[1][sb];
-    if sb < bound {
-        needed_bits(&row, places, smr0, first_step) + needed_bits(&row, places, smr1, first_step)
+    let row = table.row(field.subband);
+    let places = table.places(field.subband);
+    let smr = field_smr(field, smr_db);
+    needed_bits(&row, places, smr, first_step_bits(field))
+}
+
+// The larger of the ratios of the channels that a field serves.
+fn field_smr(field: AllocationField, smr_db: &[[f64; 32]; 2]) -> f64
+    requires { ⌜ (field .subband < 32) × (field .channel < 2) ⌝ }
+    ensures { λ r. ⌜ r ≡ most (smrsOf (now («smr_db» .entry)) field) ⌝ }
+{
+    let sb = field.subband;
+    if field.both {
+        ieee_order::max(smr_db[0][sb], smr_db[1][sb])
     } else {
-        needed_bits(&row, places, ieee_order::max(smr0, smr1), 2 * first_step)
+        let ch = field.channel;
+        smr_db[ch][sb]
     }
+}
+
+// What a field's first step costs besides its samples, in the worst case.
+pub fn first_step_bits(field: AllocationField) -> u32
+    ensures { λ r. ⌜ FirstStepIs field r ⌝ }
+{
+    if field.both { 2 * FixedBitBudget::FIRST_STEP_BITS } else { FixedBitBudget::FIRST_STEP_BITS }
 }
 
 // The demand of a field at a ratio; a ratio of at most 0 dB needs nothing.
 fn needed_bits(row: &[u32; 16], places: usize, smr: f64, first_step: u32) -> u64
     requires { ⌜ (1 ≤ places) × (places ≤ 16) × (length (now row) ≡ 16) × («first_step» ≤ 40) ⌝ }
-    ensures { λ r. ⌜ (r ≡ neededBits (take places (now (row .entry))) smr «first_step») × (r ≤ 576 + «first_step») ⌝ }
+    ensures { λ r. ⌜ NeededIs (take places (now (row .entry))) smr «first_step» r ⌝ }
 {
     if smr <= 0.0 {
         return 0;

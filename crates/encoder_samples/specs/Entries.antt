@@ -1,7 +1,7 @@
 -- The answers of the entries that take a number of steps: the code or the triplet of its class, or a refusal where there is no class.
 use Prim.Native.Nat.{ℕ, _^_, _≤_, _<_}
 use mathlib.Core.Path.{_≡_}
-use mathlib.Core.Bool.{Bool, true, false, cond}
+use mathlib.Core.Bool.{cond}
 use mathlib.Core.List.{List, [], _∷_}
 use mathlib.Core.Option.{Option, none, some}
 use lib.Dec.{eqb}
@@ -10,6 +10,7 @@ use lib.ListN.{getD}
 use Rattle.header.specs.Questions.{Question, number}
 use Rattle.header.specs.Header.{whereAccepted}
 use Rattle.bitalloc.specs.declared.QuantClass.{QuantClass}
+use Rattle.bitalloc.specs.Options.{isSome}
 use Rattle.bitalloc.specs.Classes.{classOf}
 use Rattle.encoder_samples.specs.declared.SampleCode.{SampleCode}
 use Rattle.encoder_samples.specs.declared.SampleCode.the-variants.{Code, NoClass}
@@ -18,12 +19,8 @@ use Rattle.encoder_samples.specs.declared.TripletAnswer.{TripletAnswer}
 use Rattle.encoder_samples.specs.Samples.{quantized, triplet}
 
 -- question 5: the number of steps is that of a class
-abbrev pub found : Option QuantClass → Bool
-found none = false
-found (some q) = true
-
-abbrev pub classAsked : ℕ → Question
-classAsked steps = record { yes = found (classOf steps); otherwise = 5 }
+abbrev pub classAsked : ℕ → Question ℕ
+classAsked steps = record { yes = isSome (classOf steps); otherwise = 5 }
 
 -- ---- one sample
 

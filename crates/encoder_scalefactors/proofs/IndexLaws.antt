@@ -22,7 +22,7 @@ use Rattle.tables.proofs.Descent.{descends}
 use Rattle.ieee_order.proofs.Order.{float-trans, float-lt-le, float-not-le, float-clash, le-numbers}
 use Rattle.ieee_order.proofs.Extremes.{max-keeps, max-picks, max-and-nan, max-number, le-max-first, le-max-second}
 use Rattle.ieee_order.proofs.Magnitude.{abs-nan}
-use Rattle.encoder_scalefactors.specs.Indices.{covers, multiplier, pickOf, orFirst, largest, indexFrom, indexAt, granuleOf, indicesOf, PickIs, IndexIs, Covering}
+use Rattle.encoder_scalefactors.specs.Indices.{covers, multiplier, pickOf, orFirst, largest, indexFrom, indexAt, granuleOf, indicesOf, PickIs, ScalefactorIndexIs, Covering}
 
 count : length scalefactors ≡ 63
 unfolding scalefactors
@@ -168,7 +168,7 @@ worth xs s = record {
 }
 
 -- what the code returns for a granule
-pub index-is : (xs : List Float) (s : ℕ) (x : Float) (r : ℕ) → x ≡ largest xs s 12 → PickIs x r → IndexIs xs s r
+pub index-is : (xs : List Float) (s : ℕ) (x : Float) (r : ℕ) → x ≡ largest xs s 12 → PickIs x r → ScalefactorIndexIs xs s r
 unfolding indexFrom
 index-is xs s x r e p =
     let q : r ≡ indexFrom xs s = p .whole ∙ ap pickOf e in

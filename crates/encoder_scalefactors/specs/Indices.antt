@@ -70,7 +70,7 @@ pub record PickIs (x : Float) (r : ℕ) : Type 0 where
   pub whole : r ≡ pickOf x
   pub small : r ≤ 62
 
-pub record IndexIs (samples : List Float) (start r : ℕ) : Type 0 where
+pub record ScalefactorIndexIs (samples : List Float) (start r : ℕ) : Type 0 where
   pub whole : r ≡ indexFrom samples start
   pub most : r ≤ 62
   pub worth : Covering samples start r

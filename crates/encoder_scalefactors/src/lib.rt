@@ -3,7 +3,7 @@ ghost use mathlib.Core.Path.{_≡_};
 ghost use Prim.Native.Nat.{_+_, _<_, _≤_};
 ghost use lib.ListN.{length};
 ghost use Rattle.tables.specs.Scalefactors.{scalefactors};
-ghost use Rattle.encoder_scalefactors.specs.Indices.{indexAt, granuleOf, indicesOf, PickIs, IndexIs};
+ghost use Rattle.encoder_scalefactors.specs.Indices.{indexAt, granuleOf, indicesOf, PickIs, ScalefactorIndexIs};
 use tables::SCALEFACTOR_COUNT;
 
 // Granules of a frame, samples of a granule, and samples of a subband in a frame.
@@ -39,7 +39,7 @@ fn pick_in(table: &[f64; SCALEFACTOR_COUNT], max_abs: f64) -> u8
 
 // The index of a granule's twelve samples.
 pub fn extract_scalefactor_index(samples: &[f64; GRANULE_LEN]) -> u8
-    ensures { λ r. ⌜ IndexIs (now (samples .entry)) 0 r ⌝ }
+    ensures { λ r. ⌜ ScalefactorIndexIs (now (samples .entry)) 0 r ⌝ }
 {
     let table = tables::scalefactors();
     index_from(&table, samples, 0)
@@ -99,7 +99,7 @@ fn index_at(
 // The index of the twelve samples from `start` on.
 fn index_from(table: &[f64; SCALEFACTOR_COUNT], samples: &[f64], start: usize) -> u8
     requires { ⌜ (now table ≡ scalefactors) × (start + 12 ≤ length (now samples)) ⌝ }
-    ensures { λ r. ⌜ IndexIs (now (samples .entry)) start r ⌝ }
+    ensures { λ r. ⌜ ScalefactorIndexIs (now (samples .entry)) start r ⌝ }
 {
     let mut max_abs: f64 = 0.0;
     let mut k: usize = 0;

@@ -11,42 +11,42 @@ use mir.Syntax.{w16}
 use mir.Val.{SFits, toZ, ofZ}
 use mir.Facts.{toZ-ofZ}
 use Rattle.encoder_scfsi.specs.declared.DifferenceClass.the-variants.{Class1, Class2, Class3, Class4, Class5}
-use Rattle.encoder_scfsi.specs.Class.{classOf}
+use Rattle.encoder_scfsi.specs.Class.{differenceClass}
 
 -- a test of a number's 16 bits, read as signed, is a test of the number
 pub as-read : (p : ℤ → Bool) (d : ℤ) → SFits w16 d → p d ≡ p (toZ w16 (ofZ w16 d))
 as-read p d h = ap p (sym (toZ-ofZ h))
 
-pub class-1 : (d : ℤ) → leZ d (negsuc 2) ≡ true → Class1 ≡ classOf d
-unfolding classOf
+pub class-1 : (d : ℤ) → leZ d (negsuc 2) ≡ true → Class1 ≡ differenceClass d
+unfolding differenceClass
 class-1 (pos n) e = absurd (false≢true e)
 class-1 (negsuc zero) e = absurd (false≢true e)
 class-1 (negsuc (suc zero)) e = absurd (false≢true e)
 class-1 (negsuc (suc (suc n))) e = refl
 
-pub class-2 : (d : ℤ) → leZ d (negsuc 2) ≡ false → ltZ d (pos 0) ≡ true → Class2 ≡ classOf d
-unfolding classOf
+pub class-2 : (d : ℤ) → leZ d (negsuc 2) ≡ false → ltZ d (pos 0) ≡ true → Class2 ≡ differenceClass d
+unfolding differenceClass
 class-2 (pos n) e f = let l = ltb-true n 0 f in absurd (omega arith)
 class-2 (negsuc zero) e f = refl
 class-2 (negsuc (suc zero)) e f = refl
 class-2 (negsuc (suc (suc n))) e f = let l = leb-false 2 (suc (suc n)) e in absurd (omega arith)
 
-pub class-3 : (d : ℤ) → ltZ d (pos 0) ≡ false → ofZ w16 d ≡ 0 → Class3 ≡ classOf d
-unfolding classOf
+pub class-3 : (d : ℤ) → ltZ d (pos 0) ≡ false → ofZ w16 d ≡ 0 → Class3 ≡ differenceClass d
+unfolding differenceClass
 class-3 (pos zero) e z = refl
 class-3 (pos (suc n)) e z = absurd (omega arith)
 class-3 (negsuc n) e z = absurd (true≢false e)
 
-pub class-4 : (d : ℤ) → ltZ d (pos 0) ≡ false → (ofZ w16 d ≡ 0 → ⊥) → ltZ d (pos 3) ≡ true → Class4 ≡ classOf d
-unfolding classOf
+pub class-4 : (d : ℤ) → ltZ d (pos 0) ≡ false → (ofZ w16 d ≡ 0 → ⊥) → ltZ d (pos 3) ≡ true → Class4 ≡ differenceClass d
+unfolding differenceClass
 class-4 (pos zero) e z f = absurd (z refl)
 class-4 (pos (suc zero)) e z f = refl
 class-4 (pos (suc (suc zero))) e z f = refl
 class-4 (pos (suc (suc (suc n)))) e z f = let l = ltb-true (suc (suc (suc n))) 3 f in absurd (omega arith)
 class-4 (negsuc n) e z f = absurd (true≢false e)
 
-pub class-5 : (d : ℤ) → ltZ d (pos 3) ≡ false → Class5 ≡ classOf d
-unfolding classOf
+pub class-5 : (d : ℤ) → ltZ d (pos 3) ≡ false → Class5 ≡ differenceClass d
+unfolding differenceClass
 class-5 (pos zero) e = absurd (true≢false e)
 class-5 (pos (suc zero)) e = absurd (true≢false e)
 class-5 (pos (suc (suc zero))) e = absurd (true≢false e)

@@ -17,7 +17,7 @@ use Rattle.audio_data.proofs.ScfsiLaws.{comes-back, sent-count}
 use Rattle.encoder_scfsi.specs.declared.DifferenceClass.{DifferenceClass}
 use Rattle.encoder_scfsi.specs.declared.TransmissionPattern.{TransmissionPattern}
 use Rattle.encoder_scfsi.specs.declared.ScfsiSelection.{ScfsiSelection}
-use Rattle.encoder_scfsi.specs.Class.{classOf}
+use Rattle.encoder_scfsi.specs.Class.{differenceClass}
 use Rattle.encoder_scfsi.specs.TableC4.{Prescribed, prescribedFor, named, each, listed}
 use Rattle.encoder_scfsi.specs.Storage.{stored}
 use Rattle.encoder_scfsi.specs.Select.{adjusted, selection, bit, countOf, keep, marked, SelectionRule, SelectionIs}
@@ -101,7 +101,7 @@ adjusted-rule a b c class1 class2 p r =
 
 pub selection-rule : (a b c : ℕ) → SelectionRule a b c (selection a b c)
 unfolding selection
-selection-rule a b c = adjusted-rule a b c _ _ _ (rule (classOf (pos a -ℤ pos b)) (classOf (pos b -ℤ pos c)))
+selection-rule a b c = adjusted-rule a b c _ _ _ (rule (differenceClass (pos a -ℤ pos b)) (differenceClass (pos b -ℤ pos c)))
 
 -- ---- what the code puts together from a row that it keeps
 
@@ -125,7 +125,7 @@ unfolding stored adjusted
 put-together a b c class1 class2 p row x y z s r f g h k = rw (f, g, h, k, r) (simp bit-back)
 
 pub selected : (a b c : ℕ) (class1 class2 : DifferenceClass) (row : List ℕ) (x y z : ℕ) (s : Scfsi)
-  → class1 ≡ classOf (pos a -ℤ pos b) → class2 ≡ classOf (pos b -ℤ pos c) → row ≡ stored (prescribedFor class1 class2)
+  → class1 ≡ differenceClass (pos a -ℤ pos b) → class2 ≡ differenceClass (pos b -ℤ pos c) → row ≡ stored (prescribedFor class1 class2)
   → x ≡ named a b c (getD row 0 0) → y ≡ named a b c (getD row 1 0) → z ≡ named a b c (getD row 2 0) → s ≡ ofCode (getD row 6 0)
   → SelectionIs a b c (together row x y z s class1 class2)
 unfolding selection

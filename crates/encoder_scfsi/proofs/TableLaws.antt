@@ -16,8 +16,8 @@ use Rattle.audio_data.specs.declared.Scfsi.the-variants.{ThreePerGranule, Share
 use Rattle.audio_data.specs.Scfsi.{Three, Agrees, sent, ofCode}
 use Rattle.encoder_scfsi.specs.declared.DifferenceClass.{DifferenceClass}
 use Rattle.encoder_scfsi.specs.declared.DifferenceClass.the-variants.{Class1, Class2, Class3, Class4, Class5}
-use Rattle.encoder_scfsi.specs.Class.{numberOf}
-use Rattle.encoder_scfsi.specs.TableC4.{Prescribed, Row, tableC4, keyed, rowOf, prescribedIn, prescribedFor}
+use Rattle.encoder_scfsi.specs.Class.{classNumber}
+use Rattle.encoder_scfsi.specs.TableC4.{Prescribed, Row, tableC4, keyed, patternRow, prescribedIn, prescribedFor}
 use Rattle.encoder_scfsi.specs.Storage.{stored, kept}
 use Rattle.encoder_scfsi.specs.Select.{marked}
 
@@ -59,15 +59,15 @@ placed-at i j h g =
     ap (entryAt tableC4) (is-at _ _ (below 5 (placed i) (below 5 (λ i. allBelow 5 (placed i)) all-placed i h) j g))
     ∙ there tableC4 (placeOf (suc i) (suc j)) noRow (rw row-count (omega arith))
 
-numbered : (c : DifferenceClass) → (i : ℕ) × (i < 5) × (numberOf c ≡ suc i)
+numbered : (c : DifferenceClass) → (i : ℕ) × (i < 5) × (classNumber c ≡ suc i)
 numbered Class1 = (0, lit< tt, refl)
 numbered Class2 = (1, lit< tt, refl)
 numbered Class3 = (2, lit< tt, refl)
 numbered Class4 = (3, lit< tt, refl)
 numbered Class5 = (4, lit< tt, refl)
 
-pub row-found : (c d : DifferenceClass) → rowOf c d ≡ some (getD tableC4 (placeOf (numberOf c) (numberOf d)) noRow)
-unfolding rowOf
+pub row-found : (c d : DifferenceClass) → patternRow c d ≡ some (getD tableC4 (placeOf (classNumber c) (classNumber d)) noRow)
+unfolding patternRow
 row-found c d =
     let n = numbered c in
     let m = numbered d in
@@ -80,12 +80,12 @@ map-at f [] i d e h = absurd (not-suc-le-zero h)
 map-at f (x ∷ xs) zero d e h = refl
 map-at f (x ∷ xs) (suc i) d e h = map-at f xs i d e (le-of-suc-le-suc h)
 
-pub kept-at : (c d : DifferenceClass) (e : List ℕ) → getD kept (placeOf (numberOf c) (numberOf d)) e ≡ stored (prescribedFor c d)
+pub kept-at : (c d : DifferenceClass) (e : List ℕ) → getD kept (placeOf (classNumber c) (classNumber d)) e ≡ stored (prescribedFor c d)
 unfolding kept prescribedFor
 kept-at c d e =
     let n = numbered c in
     let m = numbered d in
-    map-at (λ r. stored (r .prescribed)) tableC4 (placeOf (numberOf c) (numberOf d)) noRow e (rw row-count (omega arith))
+    map-at (λ r. stored (r .prescribed)) tableC4 (placeOf (classNumber c) (classNumber d)) noRow e (rw row-count (omega arith))
     ∙ ap (λ o. stored (prescribedIn o)) (sym (row-found c d))
 
 -- ---- the rule of the rows: the numbers of the scalefactors used agree with the sharing of the scfsi, and those marked are those sent
@@ -146,4 +146,4 @@ pub rule : (c d : DifferenceClass) → Ruled (prescribedFor c d)
 unfolding prescribedFor
 rule c d =
     subst (λ o. Ruled (prescribedIn o)) (sym (row-found c d))
-    (rule-of _ (all-at (λ r. ruled (r .prescribed)) tableC4 noRow no-row-ruled all-ruled (placeOf (numberOf c) (numberOf d))))
+    (rule-of _ (all-at (λ r. ruled (r .prescribed)) tableC4 noRow no-row-ruled all-ruled (placeOf (classNumber c) (classNumber d))))

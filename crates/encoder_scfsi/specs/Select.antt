@@ -10,7 +10,7 @@ use Rattle.audio_data.specs.Scfsi.{Three, three, Agrees, sent, restored, ofCode
 use Rattle.encoder_scfsi.specs.declared.DifferenceClass.{DifferenceClass}
 use Rattle.encoder_scfsi.specs.declared.TransmissionPattern.{TransmissionPattern}
 use Rattle.encoder_scfsi.specs.declared.ScfsiSelection.{ScfsiSelection}
-use Rattle.encoder_scfsi.specs.Class.{classOf}
+use Rattle.encoder_scfsi.specs.Class.{differenceClass}
 use Rattle.encoder_scfsi.specs.TableC4.{Prescribed, prescribedFor, named, each, listed}
 
 -- what a row prescribes, done to three indices
@@ -26,10 +26,10 @@ adjusted a b c class1 class2 p = record {
 
 -- dscf1 is the first index minus the second, dscf2 the second minus the third
 unfoldable pub selection : ℕ → ℕ → ℕ → ScfsiSelection
-unfolding classOf prescribedFor adjusted
+unfolding differenceClass prescribedFor adjusted
 selection a b c =
-    let class1 = classOf (pos a -ℤ pos b) in
-    let class2 = classOf (pos b -ℤ pos c) in
+    let class1 = differenceClass (pos a -ℤ pos b) in
+    let class2 = differenceClass (pos b -ℤ pos c) in
     adjusted a b c class1 class2 (prescribedFor class1 class2)
 
 -- 1 where a flag is set

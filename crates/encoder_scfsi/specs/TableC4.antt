@@ -8,7 +8,7 @@ use Rattle.tables.specs.Search.{find}
 use Rattle.audio_data.specs.Scfsi.{Three, three}
 use Rattle.encoder_scfsi.specs.declared.DifferenceClass.{DifferenceClass}
 use Rattle.encoder_scfsi.specs.declared.TransmissionPattern.{TransmissionPattern}
-use Rattle.encoder_scfsi.specs.Class.{numberOf}
+use Rattle.encoder_scfsi.specs.Class.{classNumber}
 
 -- What a row prescribes: the scalefactor used for each granule, where 1, 2 and 3 name those given and 4 the maximum of the three; which
 -- of the used ones are transmitted; the code of the scfsi.
@@ -77,9 +77,9 @@ tableC4 =
 abbrev pub keyed : ℕ → ℕ → Row → Bool
 keyed class1 class2 r = eqb (r .class1) class1 && eqb (r .class2) class2
 
-unfoldable pub rowOf : DifferenceClass → DifferenceClass → Option Row
+unfoldable pub patternRow : DifferenceClass → DifferenceClass → Option Row
 unfolding tableC4
-rowOf class1 class2 = find (keyed (numberOf class1) (numberOf class2)) tableC4
+patternRow class1 class2 = find (keyed (classNumber class1) (classNumber class2)) tableC4
 
 -- What it prescribes. Each pair of classes has a row; the first case only makes the function whole.
 abbrev pub prescribedIn : Option Row → Prescribed
@@ -87,8 +87,8 @@ prescribedIn none = prescribes (three 1 2 3) every 0
 prescribedIn (some r) = r .prescribed
 
 unfoldable pub prescribedFor : DifferenceClass → DifferenceClass → Prescribed
-unfolding rowOf
-prescribedFor class1 class2 = prescribedIn (rowOf class1 class2)
+unfolding patternRow
+prescribedFor class1 class2 = prescribedIn (patternRow class1 class2)
 
 -- ---- the scalefactor indices that the table names
 

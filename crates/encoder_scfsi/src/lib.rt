@@ -5,7 +5,7 @@ ghost use Prim.Native.Nat.{min};
 ghost use lib.IntN.{pos, _-ℤ_};
 ghost use lib.ListN.{getD};
 ghost use Rattle.audio_data.specs.Scfsi.{ofCode};
-ghost use Rattle.encoder_scfsi.specs.Class.{classOf, NumberIs};
+ghost use Rattle.encoder_scfsi.specs.Class.{differenceClass, NumberIs};
 ghost use Rattle.encoder_scfsi.specs.TableC4.{prescribedFor, named};
 ghost use Rattle.encoder_scfsi.specs.Storage.{stored, kept};
 ghost use Rattle.encoder_scfsi.specs.Select.{CountIs, SelectionIs};
@@ -37,7 +37,7 @@ impl DifferenceClass {
 
 // The class of a difference `dscf`.
 pub fn classify_difference(dscf: i16) -> DifferenceClass
-    ensures { λ r. ⌜ r ≡ classOf dscf ⌝ }
+    ensures { λ r. ⌜ r ≡ differenceClass dscf ⌝ }
 {
     if dscf <= -3 {
         DifferenceClass::Class1
@@ -112,7 +112,7 @@ pub fn select_scfsi(scalefactors: [u8; 3]) -> ScfsiSelection
 
 // The class of an index minus the next one.
 fn class_of_difference(scf: u8, next: u8) -> DifferenceClass
-    ensures { λ r. ⌜ r ≡ classOf (pos scf -ℤ pos next) ⌝ }
+    ensures { λ r. ⌜ r ≡ differenceClass (pos scf -ℤ pos next) ⌝ }
 {
     classify_difference((scf as i16) - (next as i16))
 }

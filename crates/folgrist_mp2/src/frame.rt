@@ -124,7 +124,7 @@ fn budget_values(budget: Budget) -> [u32; 8]
                 b.sblimit as u32,
                 b.bound as u32,
                 b.channels as u32,
-                arguments::number_of(table),
+                table.number(),
             ]
         }
         Budget::NoBitallocTable => [0; 8],

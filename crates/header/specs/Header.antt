@@ -1,17 +1,27 @@
--- The frame header of ISO/IEC 11172-3: channels and bound (2.4.2.3), and the size of the frame (2.4.3.1).
+-- The frame header of ISO/IEC 11172-3: modes and extensions, channels and bound (2.4.2.3), and the size of the frame (2.4.3.1).
 use Prim.Native.Nat.{ℕ, _+_, _*_, _/_, _≤_}
 use mathlib.Core.Bool.{Bool, not, cond}
 use mathlib.Core.List.{[], _∷_}
+use mathlib.Core.Option.{Option, none, some}
 use mathlib.Core.Path.{_≡_}
 use lib.Dec.{eqb}
+use lib.ListN.{getElem?}
 use Rattle.header.specs.declared.Mode.{Mode}
 use Rattle.header.specs.declared.Mode.the-variants.{Stereo, JointStereo, DualChannel, SingleChannel}
 use Rattle.header.specs.declared.ModeExtension.{ModeExtension}
 use Rattle.header.specs.declared.ModeExtension.the-variants.{Bound4, Bound8, Bound12, Bound16}
+use Rattle.header.specs.declared.OptionMode.{OptionMode}
+use Rattle.header.specs.declared.OptionMode.the-variants as ModeOption
+use Rattle.header.specs.declared.OptionExtension.{OptionExtension}
+use Rattle.header.specs.declared.OptionExtension.the-variants as ExtensionOption
 use Rattle.header.specs.declared.FrameHeader.{FrameHeader}
 use Rattle.header.specs.declared.FrameSize.{FrameSize}
 use Rattle.header.specs.declared.FrameSize.the-variants.{Bytes, ZeroSampleRate}
 use Rattle.header.specs.Questions.{Question, number}
+
+-- mode: '00' is stereo, '01' joint_stereo, '10' dual_channel, '11' single_channel
+abbrev pub modeOfCode : ℕ → Option Mode
+modeOfCode code = getElem? (Stereo ∷ JointStereo ∷ DualChannel ∷ SingleChannel ∷ []) code
 
 -- single_channel has one channel, every other mode two
 abbrev pub channelsOf : Mode → ℕ
@@ -20,12 +30,25 @@ channelsOf JointStereo = 2
 channelsOf DualChannel = 2
 channelsOf SingleChannel = 1
 
--- mode_extension: the subbands from 4, 8, 12 or 16 on are in intensity stereo
+-- mode_extension: the bound is 4 at '00', 8 at '01', 12 at '10', 16 at '11'
+abbrev pub extensionOfCode : ℕ → Option ModeExtension
+extensionOfCode code = getElem? (Bound4 ∷ Bound8 ∷ Bound12 ∷ Bound16 ∷ []) code
+
+-- the subbands from the bound on are in intensity stereo
 abbrev pub boundOf : ModeExtension → ℕ
 boundOf Bound4 = 4
 boundOf Bound8 = 8
 boundOf Bound12 = 12
 boundOf Bound16 = 16
+
+-- what the enums of a value or nothing stand for
+abbrev pub modeIn : OptionMode → Option Mode
+modeIn (ModeOption.Some m) = some m
+modeIn ModeOption.None = none
+
+abbrev pub extensionIn : OptionExtension → Option ModeExtension
+extensionIn (ExtensionOption.Some e) = some e
+extensionIn ExtensionOption.None = none
 
 -- free format: no bit rate is named
 abbrev pub freeFormat : FrameHeader → Bool
@@ -48,7 +71,7 @@ sizeOf (Bytes n) = record { answer = 0; bytes = n }
 sizeOf ZeroSampleRate = record { answer = 2; bytes = 0 }
 
 -- question 2: the sample rate is not 0
-abbrev pub sampleRateAsked : FrameHeader → Question
+abbrev pub sampleRateAsked : FrameHeader → Question ℕ
 sampleRateAsked h = record { yes = not (eqb (h .«sample_rate») 0); otherwise = 2 }
 
 -- the bytes under a number: those of an accepted frame, and 0 of a refused one

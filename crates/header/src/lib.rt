@@ -1,6 +1,6 @@
 // The frame header of ISO/IEC 11172-3 2.4.1.3, as far as the encoder's decisions read it, and the size of its frame.
 ghost use mathlib.Core.Path.{_≡_};
-ghost use Rattle.header.specs.Header.{freeFormat, ChannelsAre, BoundIs, SizeIs};
+ghost use Rattle.header.specs.Header.{modeOfCode, modeIn, extensionOfCode, extensionIn, freeFormat, ChannelsAre, BoundIs, SizeIs};
 
 // The channel mode (2.4.2.3).
 pub enum Mode {
@@ -10,7 +10,26 @@ pub enum Mode {
     SingleChannel,
 }
 
+// A mode, or nothing.
+pub enum OptionMode {
+    Some(Mode),
+    None,
+}
+
 impl Mode {
+    // The mode of a code of two bits.
+    pub fn of_code(code: u64) -> OptionMode
+        ensures { λ r. ⌜ modeIn r ≡ modeOfCode code ⌝ }
+    {
+        match code {
+            0 => OptionMode::Some(Mode::Stereo),
+            1 => OptionMode::Some(Mode::JointStereo),
+            2 => OptionMode::Some(Mode::DualChannel),
+            3 => OptionMode::Some(Mode::SingleChannel),
+            _ => OptionMode::None,
+        }
+    }
+
     // How many channels the mode has.
     pub fn channels(self) -> usize
         ensures { λ r. ⌜ ChannelsAre self r ⌝ }
@@ -32,7 +51,26 @@ pub enum ModeExtension {
     Bound16,
 }
 
+// A mode extension, or nothing.
+pub enum OptionExtension {
+    Some(ModeExtension),
+    None,
+}
+
 impl ModeExtension {
+    // The extension of a code of two bits.
+    pub fn of_code(code: u64) -> OptionExtension
+        ensures { λ r. ⌜ extensionIn r ≡ extensionOfCode code ⌝ }
+    {
+        match code {
+            0 => OptionExtension::Some(ModeExtension::Bound4),
+            1 => OptionExtension::Some(ModeExtension::Bound8),
+            2 => OptionExtension::Some(ModeExtension::Bound12),
+            3 => OptionExtension::Some(ModeExtension::Bound16),
+            _ => OptionExtension::None,
+        }
+    }
+
     // The subband that the extension names.
     pub fn bound(self) -> usize
         ensures { λ r. ⌜ BoundIs self r ⌝ }

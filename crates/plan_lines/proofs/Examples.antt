@@ -2,7 +2,8 @@
 use mathlib.Core.Path.{_≡_, refl}
 use Rattle.bitalloc.specs.declared.BitAllocTable.the-variants.{B2b}
 use Rattle.encoder_bit_budget.specs.declared.FixedBitBudget.{FixedBitBudget}
-use Rattle.text_line.specs.Line.{text, aligned}
+use Rattle.plan_text.specs.Quoted.{text}
+use Rattle.text_line.specs.Line.{aligned}
 use Rattle.text_line.specs.Number.{digitsOf}
 use Rattle.plan_lines.specs.Lines.{limitsText, frameLine, bitsLine, balanceText, demandLine}
 

@@ -8,7 +8,8 @@ use lib.ListN.{length, length-append}
 use Rattle.bitalloc.specs.declared.BitAllocTable.{BitAllocTable}
 use Rattle.bitalloc.specs.declared.BitAllocTable.the-variants.{B2a, B2b, B2c, B2d, B1Lsf}
 use Rattle.encoder_bit_budget.specs.declared.FixedBitBudget.{FixedBitBudget}
-use Rattle.text_line.specs.Line.{text, aligned}
+use Rattle.plan_text.specs.Quoted.{text}
+use Rattle.text_line.specs.Line.{aligned}
 use Rattle.text_line.specs.Number.{numberText}
 use Rattle.text_line.proofs.LineLaws.{column-length}
 use Rattle.text_line.proofs.NumberLaws.{few-digits}

@@ -4,15 +4,16 @@ use Rattle.tables.specs.Decimal.{decimal}
 use Rattle.encoder_samples.specs.Samples.{clamped}
 use Rattle.encoder_bit_budget.specs.Snr.{ratio, ratios, snrOf}
 use lib.Ieee.{mul, sub, neg, lt}
-use Rattle.text_line.specs.Line.{text, aligned}
+use Rattle.plan_text.specs.Quoted.{text}
+use Rattle.text_line.specs.Line.{aligned}
 use Rattle.text_line.specs.Number.{digitsOf}
-use Rattle.text_line.specs.Ratio.{hundredthsOf, ratioText}
-use Rattle.plan_page.specs.Rows.{headingLine, slotColumns}
+use Rattle.text_line.specs.Decibels.{hundredthsOf, decibelsText}
+use Rattle.plan_page.specs.Rows.{columnHeads, headingLine, slotColumns}
 
 heading : headingLine 2 ≡ text "subband |     ratio  steps      left |     ratio  steps      left |  bits"
 unfolding headingLine
 heading = refl
 
 slot : slotColumns (decimal 0 20) 127 ≡ text "     20.00    127     23.84 |"
-unfolding slotColumns aligned digitsOf ratioText hundredthsOf clamped mul sub neg lt snrOf ratios ratio decimal
+unfolding slotColumns aligned digitsOf decibelsText hundredthsOf clamped mul sub neg lt snrOf ratios ratio decimal
 slot = refl

@@ -13,14 +13,20 @@ use Rattle.tables.proofs.Listed.{tabulated, length-tabulate}
 use Rattle.header.specs.declared.FrameHeader.{FrameHeader}
 use Rattle.header.specs.Header.{freeFormat}
 use Rattle.encoder_bit_budget.specs.declared.FixedBitBudget.{FixedBitBudget}
-use Rattle.encoder_bit_budget.specs.declared.Budget.{Budget}
-use Rattle.encoder_bit_budget.specs.Budget.{BudgetAnswer, BudgetIs, budgetIn, budgetOf, noBudget}
+use Rattle.encoder_bit_budget.specs.declared.Request.{Request}
+use Rattle.encoder_bit_budget.specs.declared.BitAllocError.{BitAllocError}
+use Rattle.encoder_bit_budget.specs.declared.Budget.the-variants.{Refused}
+use Rattle.encoder_bit_budget.specs.Budget.{BudgetAnswer, plain, budgetIn, budgetOf, noBudget, layoutIn, fixedIn, cbOf, fixedOf, offeredOf, natural}
+use Rattle.encoder_bit_budget.proofs.BudgetLaws.{cb-is}
+use Rattle.encoder_bit_budget.proofs.AvailableLaws.{natural-minus}
 use Rattle.encoder_bit_budget.specs.Demand.{demandOf}
 use Rattle.encoder_bit_allocator.specs.declared.Allocation.{Allocation}
 use Rattle.encoder_bit_allocator.specs.Allocation.{allocationOf}
+use Rattle.encoder_bit_allocator.proofs.AnswerLaws.{accepted-budget}
 use Rattle.plan_page.specs.Rows.{subbandLine}
 use Rattle.plan_lines.specs.Refusal.{refusalLine}
-use Rattle.plan_page.specs.Page.{BudgetHeld, offeredOf, headOf, footOf, acceptedPage, pageBy, pageOf}
+use Rattle.plan_page.specs.Page.{headOf, footOf, acceptedPage, pageBy, pageOf}
+use Rattle.plan_page.specs.Held.{BudgetHeld}
 
 -- ---- the two pages
 
@@ -29,38 +35,46 @@ behind-last : (line : List ℕ) (n : ℕ) → (n ≡ 0 → ⊥) → [] ≡ getD 
 behind-last line zero a = absurd (a refl)
 behind-last line (suc n) a = refl
 
-module _ (free : Bool) (banc : ℕ) (smr : List (List Float)) (b : FixedBitBudget) (demand : ℕ) (a : Allocation) where
-  opened-accepted : a .number ≡ 0 → pageBy free banc smr b demand a ≡ acceptedPage b (offeredOf b banc) demand (a .audio .«nb_steps») (a .left) smr
+module _ (free : Bool) (smr : List (List Float)) (b : FixedBitBudget) (offered demand : ℕ) (a : Allocation) where
+  opened-accepted : a .number ≡ 0 → pageBy free smr b offered demand a ≡ acceptedPage b offered demand (a .audio .«nb_steps») (a .left) smr
   unfolding pageBy
   opened-accepted z = rw (eq-eqb (a .number) 0 z)
 
-  opened-refused : (a .number ≡ 0 → ⊥) → pageBy free banc smr b demand a ≡ refusalLine free (a .number) (a .cb) (a .fixed) (a .banc) ∷ []
+  opened-refused : (a .number ≡ 0 → ⊥) → pageBy free smr b offered demand a ≡ refusalLine free (a .number) (a .cb) (a .fixed) (a .banc) ∷ []
   unfolding pageBy
   opened-refused z = rw (ne-eqb (a .number) 0 z)
 
-module _ (h : FrameHeader) (banc : ℕ) (smr : List (List Float)) (a : Allocation) (e : a ≡ allocationOf h smr banc) where
-  by : pageOf h banc smr ≡ pageBy (freeFormat h) banc smr (budgetOf h .budget) (demandOf h smr .bits) a
-  unfolding pageOf
-  by = ap (pageBy (freeFormat h) banc smr (budgetOf h .budget) (demandOf h smr .bits)) (sym e)
+module _ (h : FrameHeader) (banc : ℕ) (smr : List (List Float)) (a : Allocation) (e : a ≡ allocationOf (plain h banc) smr) where
+  abbrev q : Request
+  q = plain h banc
 
-  pub page-accepted : (b : FixedBitBudget) (demand : ℕ) → b ≡ budgetOf h .budget → demand ≡ demandOf h smr .bits → a .number ≡ 0
-    → pageOf h banc smr ≡ acceptedPage b (offeredOf b banc) demand (a .audio .«nb_steps») (a .left) smr
-  page-accepted b demand q d z =
+  by : pageOf h banc smr ≡ pageBy (freeFormat h) smr (budgetOf q .budget) (natural (offeredOf q)) (demandOf h smr .bits) a
+  unfolding pageOf
+  by = ap (pageBy (freeFormat h) smr (budgetOf q .budget) (natural (offeredOf q)) (demandOf h smr .bits)) (sym e)
+
+  -- what is offered, from an accepted budget
+  offered-is : (b : FixedBitBudget) → b ≡ budgetOf q .budget → a .number ≡ 0 → b .cb - (fixedIn b + banc) ≡ natural (offeredOf q)
+  offered-is b p z =
+      let ok = accepted-budget q smr (sym (ap (λ (a : Allocation). a .number) e) ∙ z) in
+      ap (λ (b : FixedBitBudget). b .cb - (fixedIn b + banc)) p
+      ∙ ap (λ (n : ℕ). n - (fixedOf q + banc)) (cb-is q (budgetOf q .budget) ok)
+      ∙ sym (natural-minus (cbOf q) (fixedOf q + banc))
+
+  pub page-accepted : (b : FixedBitBudget) (offered demand : ℕ) → b ≡ budgetOf q .budget → offered ≡ b .cb - (fixedIn b + banc) → demand ≡ demandOf h smr .bits
+    → a .number ≡ 0 → pageOf h banc smr ≡ acceptedPage b offered demand (a .audio .«nb_steps») (a .left) smr
+  page-accepted b offered demand p o d z =
       by
-      ∙ ap (λ (x : FixedBitBudget). pageBy (freeFormat h) banc smr x (demandOf h smr .bits) a) (sym q)
-      ∙ ap (λ (n : ℕ). pageBy (freeFormat h) banc smr b n a) (sym d)
-      ∙ opened-accepted (freeFormat h) banc smr b demand a z
+      ∙ (λ i. pageBy (freeFormat h) smr (sym p i) (sym (o ∙ offered-is b p z) i) (sym d i) a)
+      ∙ opened-accepted (freeFormat h) smr b offered demand a z
 
   pub page-refused : (a .number ≡ 0 → ⊥) → pageOf h banc smr ≡ refusalLine (freeFormat h) (a .number) (a .cb) (a .fixed) (a .banc) ∷ []
-  page-refused z = by ∙ opened-refused (freeFormat h) banc smr (budgetOf h .budget) (demandOf h smr .bits) a z
+  page-refused z = by ∙ opened-refused (freeFormat h) smr (budgetOf q .budget) (natural (offeredOf q)) (demandOf h smr .bits) a z
 
   -- a line of the page, from what the code has for its parts
-  pub line-accepted : (b : FixedBitBudget) (demand offered n : ℕ) (t : List ℕ) → b ≡ budgetOf h .budget → demand ≡ demandOf h smr .bits → offered ≡ offeredOf b banc
-    → a .number ≡ 0 → t ≡ getD (acceptedPage b offered demand (a .audio .«nb_steps») (a .left) smr) n [] → t ≡ getD (pageOf h banc smr) n []
-  line-accepted b demand offered n t q d o z e =
-      e
-      ∙ ap (λ (k : ℕ). getD (acceptedPage b k demand (a .audio .«nb_steps») (a .left) smr) n []) o
-      ∙ ap (λ (p : List (List ℕ)). getD p n []) (sym (page-accepted b demand q d z))
+  pub line-accepted : (b : FixedBitBudget) (offered demand n : ℕ) (t : List ℕ) → b ≡ budgetOf q .budget → offered ≡ b .cb - (fixedIn b + banc)
+    → demand ≡ demandOf h smr .bits → a .number ≡ 0 → t ≡ getD (acceptedPage b offered demand (a .audio .«nb_steps») (a .left) smr) n []
+    → t ≡ getD (pageOf h banc smr) n []
+  line-accepted b offered demand n t p o d z g = g ∙ ap (λ (p : List (List ℕ)). getD p n []) (sym (page-accepted b offered demand p o d z))
 
   pub line-refused : (free : Bool) (n : ℕ) (t : List ℕ) → free ≡ freeFormat h → (a .number ≡ 0 → ⊥) → n ≡ 0
     → t ≡ refusalLine free (a .number) (a .cb) (a .fixed) (a .banc) → t ≡ getD (pageOf h banc smr) n []
@@ -80,13 +94,13 @@ module _ (b : FixedBitBudget) (offered demand : ℕ) (steps : List ℕ) (left : 
   head = headOf b offered demand
 
   abbrev body : List (List ℕ)
-  body = tabulate (b .sblimit) (subbandLine b steps smr)
+  body = tabulate (b .sblimit) (subbandLine (layoutIn b) steps smr)
 
   abbrev foot : List (List ℕ)
   foot = footOf offered left
 
   until-foot : length (head ++ body) ≡ 6 + b .sblimit
-  until-foot = length-append head body ∙ ap (λ (n : ℕ). 6 + n) (length-tabulate (b .sblimit) (subbandLine b steps smr))
+  until-foot = length-append head body ∙ ap (λ (n : ℕ). 6 + n) (length-tabulate (b .sblimit) (subbandLine (layoutIn b) steps smr))
 
   pub accepted-length : length (acceptedPage b offered demand steps left smr) ≡ 9 + b .sblimit
   unfolding acceptedPage
@@ -96,14 +110,14 @@ module _ (b : FixedBitBudget) (offered demand : ℕ) (steps : List ℕ) (left : 
   unfolding acceptedPage
   in-head n h = List·getD-append (head ++ body) foot [] n (omega (arith, until-foot)) ∙ List·getD-append head body [] n h
 
-  pub in-rows : (n : ℕ) → 6 ≤ n → n - 6 < b .sblimit → getD (acceptedPage b offered demand steps left smr) n [] ≡ subbandLine b steps smr (n - 6)
+  pub in-rows : (n : ℕ) → 6 ≤ n → n - 6 < b .sblimit → getD (acceptedPage b offered demand steps left smr) n [] ≡ subbandLine (layoutIn b) steps smr (n - 6)
   unfolding acceptedPage
   in-rows n h l =
       let there : n ≡ 6 + (n - 6) = omega arith in
       List·getD-append (head ++ body) foot [] n (omega (arith, until-foot))
       ∙ ap (λ (k : ℕ). getD (head ++ body) k []) there
       ∙ getD-append-add head body (n - 6) []
-      ∙ tabulated (b .sblimit) (subbandLine b steps smr) (n - 6) [] l
+      ∙ tabulated (b .sblimit) (subbandLine (layoutIn b) steps smr) (n - 6) [] l
 
   pub in-foot : (n : ℕ) → 6 ≤ n → b .sblimit ≤ n - 6 → getD (acceptedPage b offered demand steps left smr) n [] ≡ getD (footOf offered left) (n - 6 - b .sblimit) []
   unfolding acceptedPage
@@ -114,11 +128,8 @@ module _ (b : FixedBitBudget) (offered demand : ℕ) (steps : List ℕ) (left : 
 -- ---- the budget
 
 -- a refused header has the filler
-pub none-held : (h : FrameHeader) (r : Budget) (b : FixedBitBudget) (n : ℕ) → BudgetIs h r → budgetIn r ≡ record { answer = n; budget = noBudget } → b ≡ noBudget → BudgetHeld h b
-none-held h r b n f e q = record {
-  whole = q ∙ ap (λ (a : BudgetAnswer). a .budget) (sym e ∙ f .whole);
-  few = rw q (omega arith)
-}
+pub none-held : (q : Request) (e : BitAllocError) (b : FixedBitBudget) → budgetIn (Refused e) ≡ budgetOf q → b ≡ noBudget → BudgetHeld q b
+none-held q e b p z = record { whole = z ∙ ap (λ (a : BudgetAnswer). a .budget) p; few = rw z (omega arith) }
 
 -- ---- the lines that are empty, and those behind the last
 

@@ -1,6 +1,5 @@
 -- The page that answers a request: a header, the ancillary bits and the signal-to-mask ratios.
-use Prim.Native.Nat.{ℕ, _+_, _-_, _≤_}
-use mathlib.Core.Path.{_≡_}
+use Prim.Native.Nat.{ℕ, _-_}
 use mathlib.Core.Bool.{Bool, cond}
 use mathlib.Core.List.{List, [], _∷_, _++_}
 use lib.Dec.{eqb}
@@ -8,19 +7,16 @@ use lib.Ieee.{Float}
 use Rattle.tables.specs.Listed.{tabulate}
 use Rattle.header.specs.declared.FrameHeader.{FrameHeader}
 use Rattle.header.specs.Header.{freeFormat}
+use Rattle.layout.specs.Layout.{channelCount}
 use Rattle.encoder_bit_budget.specs.declared.FixedBitBudget.{FixedBitBudget}
-use Rattle.encoder_bit_budget.specs.Budget.{budgetOf, fixedIn}
+use Rattle.encoder_bit_budget.specs.Budget.{plain, budgetOf, fixedIn, layoutIn, offeredOf, natural}
 use Rattle.encoder_bit_budget.specs.Demand.{demandOf}
 use Rattle.encoder_bit_allocator.specs.declared.Allocation.{Allocation}
 use Rattle.encoder_bit_allocator.specs.Allocation.{allocationOf}
-use Rattle.text_line.specs.Line.{text}
+use Rattle.plan_text.specs.Quoted.{text}
 use Rattle.plan_page.specs.Rows.{headingLine, subbandLine}
 use Rattle.plan_lines.specs.Lines.{frameLine, bitsLine, demandLine}
 use Rattle.plan_lines.specs.Refusal.{refusalLine}
-
--- what the frame leaves for scalefactors and samples; 0 where it leaves less than nothing, which is refused
-abbrev pub offeredOf : FixedBitBudget → ℕ → ℕ
-offeredOf b banc = b .cb - (fixedIn b + banc)
 
 -- the lines above the rows
 abbrev pub headOf : FixedBitBudget → ℕ → ℕ → List (List ℕ)
@@ -30,7 +26,7 @@ headOf b offered demand =
     ∷ bitsLine (text "offered ") offered
     ∷ demandLine demand offered
     ∷ []
-    ∷ headingLine (b .channels)
+    ∷ headingLine (channelCount (layoutIn b))
     ∷ []
 
 -- the lines below them: what is charged is what is no longer left
@@ -39,22 +35,17 @@ footOf offered left = [] ∷ bitsLine (text "charged ") (offered - left) ∷ bit
 
 unfoldable pub acceptedPage : FixedBitBudget → ℕ → ℕ → List ℕ → ℕ → List (List Float) → List (List ℕ)
 acceptedPage b offered demand steps left smr =
-    headOf b offered demand ++ tabulate (b .sblimit) (subbandLine b steps smr) ++ footOf offered left
+    headOf b offered demand ++ tabulate (b .sblimit) (subbandLine (layoutIn b) steps smr) ++ footOf offered left
 
--- the page from what the budget, the demand and the allocation answer
-unfoldable pub pageBy : Bool → ℕ → List (List Float) → FixedBitBudget → ℕ → Allocation → List (List ℕ)
-pageBy free banc smr b demand a =
+-- the page from what the budget, the offer, the demand and the allocation answer
+unfoldable pub pageBy : Bool → List (List Float) → FixedBitBudget → ℕ → ℕ → Allocation → List (List ℕ)
+pageBy free smr b offered demand a =
     cond (eqb (a .number) 0)
-    (acceptedPage b (offeredOf b banc) demand (a .audio .«nb_steps») (a .left) smr)
+    (acceptedPage b offered demand (a .audio .«nb_steps») (a .left) smr)
     (refusalLine free (a .number) (a .cb) (a .fixed) (a .banc) ∷ [])
 
 -- the whole page, line by line
 unfoldable pub pageOf : FrameHeader → ℕ → List (List Float) → List (List ℕ)
-pageOf h banc smr = pageBy (freeFormat h) banc smr (budgetOf h .budget) (demandOf h smr .bits) (allocationOf h smr banc)
-
--- ---- what a function promises
-
--- the budget of a header, or the filler; either carries at most 30 subbands
-pub record BudgetHeld (h : FrameHeader) (b : FixedBitBudget) : Type 0 where
-  pub whole : b ≡ budgetOf h .budget
-  pub few : b .sblimit ≤ 30
+pageOf h banc smr =
+    let q = plain h banc in
+    pageBy (freeFormat h) smr (budgetOf q .budget) (natural (offeredOf q)) (demandOf h smr .bits) (allocationOf q smr)

@@ -1,41 +1,52 @@
 -- The rows of the page, one for each subband that is carried.
-use Prim.Native.Nat.{ℕ, _+_, _*_}
-use mathlib.Core.List.{List, [], _∷_, _++_}
+use Prim.Native.Nat.{ℕ, zero, suc, _+_}
+use mathlib.Core.Bool.{cond}
+use mathlib.Core.List.{List, [], _++_}
+use lib.Dec.{eqb}
 use lib.Ieee.{Float}
 use lib.ListN.{getD}
-use Rattle.encoder_bit_budget.specs.declared.FixedBitBudget.{FixedBitBudget}
-use Rattle.encoder_bit_budget.specs.Layout.{channelList, fieldsAt, sumOver}
-use Rattle.encoder_bit_budget.specs.Demand.{smrAt}
-use Rattle.encoder_bit_allocator.specs.Entries.{slotRatio}
+use Rattle.layout.specs.declared.Layout.{Layout}
+use Rattle.layout.specs.declared.AllocationField.{AllocationField}
+use Rattle.layout.specs.Slots.{slotOf}
+use Rattle.layout.specs.Layout.{channelCount, fieldsOf, sumOver}
+use Rattle.encoder_bit_budget.specs.Demand.{smrAt, firstStep}
+use Rattle.encoder_bit_allocator.specs.Entries.{slotMnr, charge}
 use Rattle.encoder_bit_allocator.specs.Allocation.{fieldSteps}
-use Rattle.encoder_bit_allocator.specs.Numbering.{chargeBy}
-use Rattle.text_line.specs.Line.{text, aligned}
+use Rattle.plan_text.specs.Quoted.{text}
+use Rattle.text_line.specs.Line.{aligned}
 use Rattle.text_line.specs.Number.{numberText}
-use Rattle.text_line.specs.Ratio.{ratioText}
+use Rattle.text_line.specs.Decibels.{decibelsText}
 
--- the texts of a list's entries, one behind the other
-abbrev pub joined : (ℕ → List ℕ) → List ℕ → List ℕ
-joined f [] = []
-joined f (x ∷ xs) = f x ++ joined f xs
+-- the texts of the channels below n, one behind the other
+abbrev pub joined : (ℕ → List ℕ) → ℕ → List ℕ
+joined f zero = []
+joined f (suc n) = joined f n ++ f n
 
 -- a group of columns for each channel
+abbrev pub columnHeads : List ℕ
+columnHeads = text "     ratio  steps      left |"
+
 unfoldable pub headingLine : ℕ → List ℕ
-headingLine channels =
-    text "subband |"
-    ++ joined (λ ch. text "     ratio  steps      left |") (channelList channels)
-    ++ text "  bits"
+headingLine channels = text "subband |" ++ joined (λ ch. columnHeads) channels ++ text "  bits"
+
+abbrev pub rowStart : ℕ → List ℕ
+rowStart sb = aligned 7 (numberText sb) ++ text " |"
 
 -- a slot's signal-to-mask ratio, its steps, and the mask-to-noise ratio that they leave
 unfoldable pub slotColumns : Float → ℕ → List ℕ
 slotColumns smr steps =
-    aligned 10 (ratioText smr) ++ aligned 7 (numberText steps) ++ aligned 10 (ratioText (slotRatio steps smr)) ++ text " |"
+    aligned 10 (decibelsText smr) ++ aligned 7 (numberText steps) ++ aligned 10 (decibelsText (slotMnr steps smr)) ++ text " |"
 
--- the bits charged for the fields of a subband; the steps are by slot, 32 * channel + subband
-unfoldable pub subbandBits : ℕ → ℕ → List ℕ → ℕ → ℕ
-subbandBits bound channels steps sb = sumOver (λ x. chargeBy x (fieldSteps steps x)) (fieldsAt bound channels sb)
+abbrev pub channelColumns : List ℕ → List (List Float) → ℕ → ℕ → List ℕ
+channelColumns steps smr sb ch = slotColumns (smrAt smr ch sb) (getD steps (slotOf ch sb) 0)
 
-unfoldable pub subbandLine : FixedBitBudget → List ℕ → List (List Float) → ℕ → List ℕ
-subbandLine b steps smr sb =
-    aligned 7 (numberText sb) ++ text " |"
-    ++ joined (λ ch. slotColumns (smrAt smr ch sb) (getD steps (32 * ch + sb) 0)) (channelList (b .channels))
-    ++ aligned 6 (numberText (subbandBits (b .bound) (b .channels) steps sb))
+-- the bits charged for the fields of a subband; the steps are by slot
+abbrev pub bitsIn : List ℕ → ℕ → AllocationField → ℕ
+bitsIn steps sb x = cond (eqb (x .subband) sb) (charge (fieldSteps steps x) (firstStep x)) 0
+
+unfoldable pub subbandBits : Layout → List ℕ → ℕ → ℕ
+subbandBits l steps sb = sumOver (bitsIn steps sb) (fieldsOf l)
+
+unfoldable pub subbandLine : Layout → List ℕ → List (List Float) → ℕ → List ℕ
+subbandLine l steps smr sb =
+    rowStart sb ++ joined (channelColumns steps smr sb) (channelCount l) ++ aligned 6 (numberText (subbandBits l steps sb))

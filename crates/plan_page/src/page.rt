@@ -1,15 +1,15 @@
 // The page, line by line.
 ghost use mathlib.Core.Path.{_≡_};
 ghost use mathlib.Core.List.{[]};
-ghost use Prim.Native.Nat.{_-_, _≤_};
+ghost use Prim.Native.Nat.{_+_, _-_, _≤_};
 ghost use lib.ListN.{length, getD};
-ghost use Rattle.encoder_bit_budget.specs.Budget.{noBudget};
+ghost use Rattle.encoder_bit_budget.specs.Budget.{noBudget, fixedIn};
 ghost use Rattle.text_line.specs.Line.{textOf};
-ghost use Rattle.plan_page.specs.Page.{BudgetHeld, offeredOf, headOf, footOf, acceptedPage, pageOf};
+ghost use Rattle.plan_page.specs.Page.{headOf, footOf, acceptedPage, pageOf};
+ghost use Rattle.plan_page.specs.Held.{BudgetHeld};
 use crate::rows;
 use bitalloc::BitAllocTable;
-use encoder_bit_budget::Budget;
-use encoder_bit_budget::FixedBitBudget;
+use encoder_bit_budget::{Budget, FixedBitBudget, Request};
 use header::FrameHeader;
 use text_line::Line;
 
@@ -19,7 +19,7 @@ pub fn page_length(header: FrameHeader, banc: u32, smr_db: [[f64; 32]; 2]) -> us
 {
     let a = encoder_bit_allocator::allocate_bits(header, smr_db, banc);
     if a.number == 0 {
-        let b = budget_held(header);
+        let b = budget_held(Request { header, banc });
         9 + b.sblimit
     } else {
         1
@@ -32,7 +32,7 @@ pub fn page_line(header: FrameHeader, banc: u32, smr_db: [[f64; 32]; 2], n: usiz
 {
     let a = encoder_bit_allocator::allocate_bits(header, smr_db, banc);
     if a.number == 0 {
-        let b = budget_held(header);
+        let b = budget_held(Request { header, banc });
         let demand = encoder_bit_budget::demand_bits(header, smr_db);
         let audio = a.audio;
         let steps = audio.nb_steps;
@@ -61,7 +61,7 @@ fn accepted_line(
     if n < 6 {
         head_line(b, offered, demand, n)
     } else if n - 6 < sblimit {
-        rows::subband_line(b, steps, smr_db, n - 6)
+        rows::subband_line(b.layout(), steps, smr_db, n - 6)
     } else {
         foot_line(offered, left, n - 6 - sblimit)
     }
@@ -80,7 +80,8 @@ fn head_line(b: FixedBitBudget, offered: u64, demand: u64, n: usize) -> Line
     } else if n == 3 {
         plan_lines::demand_line(demand, offered)
     } else if n == 5 {
-        rows::heading(b.channels)
+        let layout = b.layout();
+        rows::heading(layout.channel_count())
     } else {
         Line::new()
     }
@@ -99,16 +100,14 @@ fn foot_line(offered: u64, left: u64, n: usize) -> Line
     }
 }
 
-// The budget of a header, or the filler where it has none.
-fn budget_held(header: FrameHeader) -> FixedBitBudget
-    ensures { λ r. ⌜ BudgetHeld header r ⌝ }
+// The budget of a request, or the filler where it has none.
+fn budget_held(request: Request) -> FixedBitBudget
+    ensures { λ r. ⌜ BudgetHeld request r ⌝ }
 {
-    let budget = encoder_bit_budget::fixed_bit_budget(header);
+    let budget = request.budget();
     match budget {
         Budget::Ok(b) => b,
-        Budget::NoBitallocTable => no_budget(),
-        Budget::ZeroSampleRate => no_budget(),
-        Budget::FrameTooLarge => no_budget(),
+        Budget::Refused(_) => no_budget(),
     }
 }
 
@@ -130,7 +129,7 @@ fn no_budget() -> FixedBitBudget
 
 // The bits offered; 0 where the fixed and the ancillary bits are more than the frame's.
 fn offered_bits(b: FixedBitBudget, banc: u32) -> u64
-    ensures { λ r. ⌜ r ≡ offeredOf b banc ⌝ }
+    ensures { λ r. ⌜ r ≡ b .cb - (fixedIn b + banc) ⌝ }
 {
     above(b.cb as u64, b.fixed() + (banc as u64))
 }

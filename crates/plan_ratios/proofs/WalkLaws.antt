@@ -12,7 +12,7 @@ use Rattle.plan_ratios.specs.declared.Gap.{Gap}
 use Rattle.plan_ratios.specs.declared.RatiosAnswer.the-variants.{Accepted, CannotRead, TooMany, TooFew}
 use Rattle.plan_ratios.specs.Ratio.{ratioOf}
 use Rattle.plan_ratios.specs.Tokens.{endsLine, onLine, tokensFrom}
-use Rattle.plan_ratios.specs.Ratios.{slotsOf, empty, refused, accepted, answered, ratiosOf}
+use Rattle.plan_ratios.specs.Ratios.{wanted, empty, refused, accepted, answered, ratiosOf}
 use Rattle.plan_ratios.specs.Walk.{isEnd, Reached, Skipped}
 use Rattle.plan_ratios.proofs.TokenLaws.{token-at, token-less}
 use Rattle.plan_ratios.proofs.AnswerLaws.{too-few, enough, too-many, unread, read, Filled, taken, whole, more, filled-more}
@@ -22,24 +22,24 @@ abbrev lines : List ℕ → ℕ
 lines text = length (pieces endsLine text)
 
 -- `count` ratios are read, and the tokens from `at` on are still to come
-pub record Walked (text : List ℕ) (channels slots : ℕ) (ratios : List Float) (count at feeds : ℕ) : Type 0 where
+pub record Walked (text : List ℕ) (given slots : ℕ) (ratios : List Float) (count at feeds : ℕ) : Type 0 where
   pub room : count ≤ slots
   pub filled : Filled ratios count
   pub reached : Reached text at feeds
-  pub left : ratiosOf channels text ≡ answered slots (lines text) (take count ratios) (tokensFrom (feeds + 1) (drop at text))
+  pub left : ratiosOf given text ≡ answered slots (lines text) (take count ratios) (tokensFrom (feeds + 1) (drop at text))
 
-pub at-first : (text : List ℕ) (channels slots : ℕ) (ratios : List Float) (r : Gap) → slots ≡ slotsOf channels → ratios ≡ empty 64 → Skipped text 0 0 r
-    → Walked text channels slots ratios 0 (r .at) (r .feeds)
+pub at-first : (text : List ℕ) (given slots : ℕ) (ratios : List Float) (r : Gap) → slots ≡ wanted given → ratios ≡ empty 64 → Skipped text 0 0 r
+    → Walked text given slots ratios 0 (r .at) (r .feeds)
 unfolding ratiosOf empty
-at-first text channels slots ratios r e f k = record {
+at-first text given slots ratios r e f k = record {
   room = omega arith;
   filled = record { long = rw f; most = omega arith; rest = f };
   reached = k .reached;
-  left = rw e (ap (answered (slotsOf channels) (lines text) []) (k .kept));
+  left = rw e (ap (answered (wanted given) (lines text) []) (k .kept));
 }
 
-module _ (text : List ℕ) (channels slots : ℕ) (fits : slots ≤ 64) (ratios : List Float) (count at feeds : ℕ)
-    (w : Walked text channels slots ratios count at feeds) where
+module _ (text : List ℕ) (given slots : ℕ) (fits : slots ≤ 64) (ratios : List Float) (count at feeds : ℕ)
+    (w : Walked text given slots ratios count at feeds) where
   got : List Float
   got = take count ratios
 
@@ -52,7 +52,7 @@ module _ (text : List ℕ) (channels slots : ℕ) (fits : slots ≤ 64) (ratios 
     token : List ℕ
     token = take (e - at) (drop at text)
 
-    met : ratiosOf channels text ≡ answered slots (lines text) got (onLine (feeds + 1) token ∷ tokensFrom (feeds + 1) (drop e text))
+    met : ratiosOf given text ≡ answered slots (lines text) got (onLine (feeds + 1) token ∷ tokensFrom (feeds + 1) (drop e text))
     unfolding got token
     met = w .left ∙ ap (answered slots (lines text) (take count ratios)) (token-at text at h (feeds + 1) e (w .reached .starts h) f)
 
@@ -62,7 +62,7 @@ module _ (text : List ℕ) (channels slots : ℕ) (fits : slots ≤ 64) (ratios 
     pub within : e ≤ length text
     within = found-most isEnd text at e (w .reached .within) f
 
-    pub at-many : count ≡ slots → ratiosOf channels text ≡ refused TooMany (feeds + 1) count
+    pub at-many : count ≡ slots → ratiosOf given text ≡ refused TooMany (feeds + 1) count
     at-many z =
         met
         ∙ too-many slots (lines text) got (onLine (feeds + 1) token) (tokensFrom (feeds + 1) (drop e text)) (omega (arith, as-many))
@@ -72,7 +72,7 @@ module _ (text : List ℕ) (channels slots : ℕ) (fits : slots ≤ 64) (ratios 
       less : length got < slots
       less = omega (arith, as-many, w .room, z)
 
-      pub at-unread : ratioOf (take (e - at) (drop at text)) ≡ none → ratiosOf channels text ≡ refused CannotRead (feeds + 1) count
+      pub at-unread : ratioOf (take (e - at) (drop at text)) ≡ none → ratiosOf given text ≡ refused CannotRead (feeds + 1) count
       unfolding token
       at-unread q =
           met
@@ -83,7 +83,7 @@ module _ (text : List ℕ) (channels slots : ℕ) (fits : slots ≤ 64) (ratios 
       below = subst (λ (n : ℕ). n < slots) as-many less
 
       pub at-read : (x : Float) (r : Gap) → ratioOf (take (e - at) (drop at text)) ≡ some x → Skipped text e feeds r
-          → Walked text channels slots (set ratios count x) (count + 1) (r .at) (r .feeds)
+          → Walked text given slots (set ratios count x) (count + 1) (r .at) (r .feeds)
       unfolding got token
       at-read x r q k =
           let b = below in
@@ -100,13 +100,13 @@ module _ (text : List ℕ) (channels slots : ℕ) (fits : slots ≤ 64) (ratios 
 
   -- at the end of the text
   module _ (h : length text ≤ at) where
-    over : ratiosOf channels text ≡ answered slots (lines text) got []
+    over : ratiosOf given text ≡ answered slots (lines text) got []
     unfolding got tokensFrom
     over = w .left ∙ rw (drop-of-length-le text h)
 
-    pub at-few : count < slots → ratiosOf channels text ≡ refused TooFew (lines text) count
+    pub at-few : count < slots → ratiosOf given text ≡ refused TooFew (lines text) count
     at-few l = over ∙ too-few slots (lines text) got (omega (arith, as-many)) ∙ ap (refused TooFew (lines text)) as-many
 
-    pub at-enough : slots ≤ count → ratiosOf channels text ≡ record { answer = Accepted; line = 0; count = count; ratios = ratios }
+    pub at-enough : slots ≤ count → ratiosOf given text ≡ record { answer = Accepted; line = 0; count = count; ratios = ratios }
     unfolding got accepted
     at-enough l = over ∙ enough slots (lines text) got (omega (arith, as-many)) ∙ rw (whole ratios count (w .filled), as-many)

@@ -10,7 +10,7 @@ use lib.Ieee.{Float, nan, inf, neg}
 use Rattle.tables.specs.Decimal.{decimal}
 use Rattle.plan_text.specs.Bytes.{same, before, behind}
 use Rattle.plan_text.specs.Digits.{digits, numeral}
-use Rattle.plan_text.specs.Quoted.{bytes}
+use Rattle.plan_text.specs.Quoted.{text}
 use Rattle.plan_ratios.specs.declared.OptionRatio.{OptionRatio}
 use Rattle.plan_ratios.specs.declared.OptionRatio.the-variants.{Some, None}
 
@@ -45,9 +45,9 @@ signed t =
 -- the words that are no numbers
 unfoldable pub wordValue : List ℕ → Option Float
 wordValue t =
-    cond (same t (bytes "inf")) (some (inf false))
-    (cond (same t (bytes "-inf")) (some (inf true))
-    (cond (same t (bytes "nan")) (some nan)
+    cond (same t (text "inf")) (some (inf false))
+    (cond (same t (text "-inf")) (some (inf true))
+    (cond (same t (text "nan")) (some nan)
     none))
 
 -- the first of two, or the second where it is missing

@@ -1,9 +1,9 @@
--- The answer to a text of ratios: 32 for each channel, or what is wrong with the first token that is wrong.
-use Prim.Native.Nat.{ℕ, _-_}
+-- The answer to a text of ratios: one for each slot, or what is wrong with the first token that is wrong.
+use Prim.Native.Nat.{ℕ, _-_, min}
 use mathlib.Core.Bool.{false, cond}
 use mathlib.Core.List.{List, [], _∷_, _++_}
 use mathlib.Core.Option.{Option, none, some}
-use lib.Dec.{eqb, ltb}
+use lib.Dec.{ltb}
 use lib.IntN.{pos}
 use lib.ListN.{length, replicate}
 use lib.Ieee.{Float, fin}
@@ -14,9 +14,9 @@ use Rattle.plan_ratios.specs.declared.RatiosAnswer.the-variants.{Accepte
 use Rattle.plan_ratios.specs.Ratio.{ratioOf}
 use Rattle.plan_ratios.specs.Tokens.{Token, endsLine, tokensFrom}
 
--- one channel has 32 slots, two have 64
-abbrev pub slotsOf : ℕ → ℕ
-slotsOf channels = cond (eqb channels 1) 32 64
+-- as many ratios are wanted as there are slots, 64 at most
+abbrev pub wanted : ℕ → ℕ
+wanted slots = min slots 64
 
 -- n slots with 0.0
 unfoldable pub empty : ℕ → List Float
@@ -45,4 +45,4 @@ answered slots lastLine got (t ∷ ts) =
 
 -- the whole answer; lines are counted from 1, and the last line's number is how many there are
 unfoldable pub ratiosOf : ℕ → List ℕ → Ratios
-ratiosOf channels text = answered (slotsOf channels) (length (pieces endsLine text)) [] (tokensFrom 1 text)
+ratiosOf slots text = answered (wanted slots) (length (pieces endsLine text)) [] (tokensFrom 1 text)

@@ -8,7 +8,7 @@ use lib.ListN.{length, getD, drop}
 use Rattle.plan_text.specs.Bytes.{reach}
 use Rattle.plan_ratios.specs.declared.Gap.{Gap}
 use Rattle.plan_ratios.specs.Tokens.{endsLine, isHash, isBlank, tokensFrom}
-use Rattle.plan_ratios.specs.Ratios.{slotsOf}
+use Rattle.plan_ratios.specs.Ratios.{wanted}
 
 -- what ends a token
 abbrev pub isEnd : ℕ → Bool
@@ -19,9 +19,9 @@ abbrev pub gap : List ℕ → ℕ
 gap [] = 0
 gap (b ∷ bs) = cond (isHash b) (suc (reach endsLine bs)) 1
 
--- what the steps of the walk find: how many slots there are, the line feeds in a byte, and where a gap that starts at a place ends
-pub record SlotsAre (channels r : ℕ) : Type 0 where
-  pub whole : r ≡ slotsOf channels
+-- what the steps of the walk find: how many ratios are wanted, the line feeds in a byte, and where a gap that starts at a place ends
+pub record WantedAre (slots r : ℕ) : Type 0 where
+  pub whole : r ≡ wanted slots
   pub most : r ≤ 64
 
 pub record FeedsAre (byte r : ℕ) : Type 0 where

@@ -9,7 +9,7 @@ ghost use lib.ListN.{length, drop};
 ghost use Rattle.plan_text.specs.Bytes.{reach, pieces};
 ghost use Rattle.plan_ratios.specs.Tokens.{endsLine};
 ghost use Rattle.plan_ratios.specs.Ratios.{empty, refused, ratiosOf};
-ghost use Rattle.plan_ratios.specs.Walk.{isEnd, SlotsAre, FeedsAre, GapEndIs, Skipped};
+ghost use Rattle.plan_ratios.specs.Walk.{isEnd, WantedAre, FeedsAre, GapEndIs, Skipped};
 use plan_text::OptionU64;
 
 // A ratio that may be missing.
@@ -159,18 +159,18 @@ pub struct Ratios {
     pub ratios: [f64; 64],
 }
 
-// The ratios of a text, in the order of the slots; any number of channels but 1 counts as 2.
-pub fn read_ratios(text: &[u8], channels: usize) -> Ratios
-    ensures { λ r. ⌜ r ≡ ratiosOf channels (now (text .entry)) ⌝ }
+// The ratios of a text, one for each slot, in their order; 64 slots at most.
+pub fn read_ratios(text: &[u8], slots: usize) -> Ratios
+    ensures { λ r. ⌜ r ≡ ratiosOf slots (now (text .entry)) ⌝ }
 {
-    let slots = slots_of(channels);
+    let room = wanted(slots);
     let mut ratios = no_ratios();
     let mut count: usize = 0;
     let start = skip_gap(text, 0, 0);
     let mut at = start.at;
     let mut feeds = start.feeds;
     while at < text.len() {
-        if count == slots {
+        if count == room {
             return refused(RatiosAnswer::TooMany, feeds + 1, count);
         }
         let end = token_end(text, at);
@@ -184,7 +184,7 @@ pub fn read_ratios(text: &[u8], channels: usize) -> Ratios
         at = next.at;
         feeds = next.feeds;
     }
-    if count < slots {
+    if count < room {
         return refused(RatiosAnswer::TooFew, count_lines(text), count);
     }
     Ratios {
@@ -195,10 +195,11 @@ pub fn read_ratios(text: &[u8], channels: usize) -> Ratios
     }
 }
 
-fn slots_of(channels: usize) -> usize
-    ensures { λ r. ⌜ SlotsAre channels r ⌝ }
+// How many ratios are wanted.
+fn wanted(slots: usize) -> usize
+    ensures { λ r. ⌜ WantedAre slots r ⌝ }
 {
-    if channels == 1 { 32 } else { 64 }
+    if slots < 64 { slots } else { 64 }
 }
 
 // 64 slots with 0.0.

@@ -107,6 +107,16 @@ read-told most n bs = go (digits bs) (leb (numeral bs) most)
     go true false e = absurd (Option·none-ne-some n e)
     go false l e = absurd (Option·none-ne-some n e)
 
+-- it is at most the most
+pub read-most : (most n : ℕ) (bs : List ℕ) → numberTo most bs ≡ some n → n ≤ most
+unfolding numberTo
+read-most most n bs = go (digits bs) (leb (numeral bs) most) refl
+  where
+    go : (d l : Bool) → leb (numeral bs) most ≡ l → cond (d && l) (some (numeral bs)) none ≡ some n → n ≤ most
+    go true true g e = let z = Option·some-injective _ _ e in let h = leb-true (numeral bs) most g in omega arith
+    go true false g e = absurd (Option·none-ne-some n e)
+    go false l g e = absurd (Option·none-ne-some n e)
+
 -- a number that is small enough is missing only where a byte is not a digit
 pub unread-told : (most : ℕ) (bs : List ℕ) → 10 ^ length bs ≤ most + 1 → numberTo most bs ≡ none → digits bs ≡ false
 unfolding numberTo

@@ -2,16 +2,16 @@
 use mathlib.Core.Path.{_≡_, refl, ap, _∙_}
 use mathlib.Core.Bool.{Bool, true, false, cond}
 use mathlib.Core.List.{List}
-use mathlib.Core.Option.{none, some}
+use mathlib.Core.Option.{none, some, Option·none-ne-some}
 use Prim.Native.Nat.{ℕ, _-_, _≤_, _<_}
 use native.Mathlib.Omega.{arith}
-use lib.Dec.{lit≤}
+use lib.Dec.{lit≤, eqb}
 use lib.ListN.{length, take, drop, length-take}
 use borrow.Author.Tests.{eq-eqb, ne-eqb, le-leb, lt-leb}
 use Rattle.plan_text.specs.Bytes.{same}
 use Rattle.plan_text.specs.Digits.{numberTo}
 use Rattle.plan_text.proofs.ByteLaws.{same-equal, take-rest}
-use Rattle.plan_text.proofs.DigitLaws.{read-less, unread-less}
+use Rattle.plan_text.proofs.DigitLaws.{read-most, read-less, unread-less}
 use Rattle.plan_words.specs.Word.{number, valueAfter}
 
 -- ---- a number of 32 bits, from one of fifteen digits
@@ -38,6 +38,15 @@ module _ (v : List ℕ) where
       unfolding number
       large l = rw (ne-eqb (length v) 0 h) (read-less most 4_294_967_295 v n e ∙ rw (lt-leb n 4_294_967_295 l))
 
+  -- a number that is read has 32 bits
+  pub in-32-bits : (n : ℕ) → number v ≡ some n → n ≤ 4_294_967_295
+  unfolding number
+  in-32-bits n = go (eqb (length v) 0)
+    where
+      go : (b : Bool) → cond b none (numberTo 4_294_967_295 v) ≡ some n → n ≤ 4_294_967_295
+      go true e = absurd (Option·none-ne-some n e)
+      go false e = read-most 4_294_967_295 n v e
+
 -- ---- a number behind a key
 
 module _ (key w : List ℕ) where
@@ -59,3 +68,11 @@ module _ (key w : List ℕ) where
   pub other-key : same (take (length key) w) key ≡ false → valueAfter key w ≡ none
   unfolding valueAfter
   other-key e = rw e
+
+  pub value-in-32-bits : (n : ℕ) → valueAfter key w ≡ some n → n ≤ 4_294_967_295
+  unfolding valueAfter
+  value-in-32-bits n = go (same (take (length key) w) key)
+    where
+      go : (b : Bool) → cond b (number (drop (length key) w)) none ≡ some n → n ≤ 4_294_967_295
+      go true e = in-32-bits (drop (length key) w) n e
+      go false e = absurd (Option·none-ne-some n e)

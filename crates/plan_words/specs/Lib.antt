@@ -1,4 +1,3 @@
 pub mod Word
 pub mod Line
-pub mod Options
 pub mod Key

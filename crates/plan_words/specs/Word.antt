@@ -10,7 +10,7 @@ use Rattle.header.specs.declared.Mode.the-variants.{Stereo, JointStereo, DualCh
 use Rattle.header.specs.declared.ModeExtension.the-variants.{Bound4, Bound8, Bound12, Bound16}
 use Rattle.plan_text.specs.Bytes.{same}
 use Rattle.plan_text.specs.Digits.{numberTo}
-use Rattle.plan_text.specs.Quoted.{bytes}
+use Rattle.plan_text.specs.Quoted.{text}
 use Rattle.plan_words.specs.declared.Setting.{Setting}
 use Rattle.plan_words.specs.declared.Setting.the-variants.{SampleRate, BitRate, Channels, Bound, Lsf, Padding, Crc, Ancillary, Unknown}
 
@@ -53,7 +53,7 @@ flagWords =
 -- what the first entry of a table with that word sets, and `other` where there is none
 unfoldable pub lookup : List Named → Setting → List ℕ → Setting
 lookup [] other w = other
-lookup (n ∷ ns) other w = cond (same w (bytes (n .word))) (n .sets) (lookup ns other w)
+lookup (n ∷ ns) other w = cond (same w (text (n .word))) (n .sets) (lookup ns other w)
 
 -- ---- words with a number
 
@@ -72,9 +72,9 @@ whereRead f none other = other
 
 unfoldable pub numberWord : List ℕ → Setting
 numberWord w =
-    whereRead SampleRate (valueAfter (bytes "fs=") w)
-    (whereRead BitRate (valueAfter (bytes "rate=") w)
-    (whereRead Ancillary (valueAfter (bytes "ancillary=") w)
+    whereRead SampleRate (valueAfter (text "fs=") w)
+    (whereRead BitRate (valueAfter (text "rate=") w)
+    (whereRead Ancillary (valueAfter (text "ancillary=") w)
     Unknown))
 
 -- ---- any word

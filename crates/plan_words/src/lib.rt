@@ -2,8 +2,8 @@
 ghost use mathlib.Core.Path.{_≡_};
 ghost use mathlib.Core.List.{_++_};
 ghost use Prim.Native.Nat.{_<_};
+ghost use Rattle.plan_text.specs.Digits.{optionOf};
 ghost use Rattle.plan_words.specs.Word.{boundWords, flagWords, lookup, numberWord, meaning, number, valueAfter};
-ghost use Rattle.plan_words.specs.Options.{numberIn};
 ghost use Rattle.plan_words.specs.Line.{keyOf, headerWith, bancWith, withSetting, defaults, isGiven, refused, wordsOf, finished};
 ghost use Rattle.plan_words.specs.Key.{KeyIs};
 use header::FrameHeader;
@@ -101,55 +101,49 @@ fn number_word(word: &[u8]) -> Setting
     ensures { λ r. ⌜ r ≡ numberWord (now (word .entry)) ⌝ }
 {
     let fs = value_after(word, b"fs=");
-    if let OptionU32::Some(n) = fs {
-        return Setting::SampleRate(n);
+    if let OptionU64::Some(n) = fs {
+        return Setting::SampleRate(n as u32);
     }
     let rate = value_after(word, b"rate=");
-    if let OptionU32::Some(n) = rate {
-        return Setting::BitRate(n);
+    if let OptionU64::Some(n) = rate {
+        return Setting::BitRate(n as u32);
     }
     let ancillary = value_after(word, b"ancillary=");
-    if let OptionU32::Some(n) = ancillary {
-        return Setting::Ancillary(n);
+    if let OptionU64::Some(n) = ancillary {
+        return Setting::Ancillary(n as u32);
     }
     Setting::Unknown
 }
 
-// A number of 32 bits that may be missing.
-enum OptionU32 {
-    Some(u32),
-    None,
-}
-
 // The number behind a key that the word starts with.
-fn value_after(word: &[u8], key: &[u8]) -> OptionU32
-    ensures { λ r. ⌜ numberIn r ≡ valueAfter (now (key .entry)) (now (word .entry)) ⌝ }
+fn value_after(word: &[u8], key: &[u8]) -> OptionU64
+    ensures { λ r. ⌜ optionOf r ≡ valueAfter (now (key .entry)) (now (word .entry)) ⌝ }
 {
     let start = key.len();
     if word.len() < start {
-        return OptionU32::None;
+        return OptionU64::None;
     }
     if plan_text::same(&word[..start], key) {
         return read_number(&word[start..]);
     }
-    OptionU32::None
+    OptionU64::None
 }
 
 // A number of 32 bits in decimal digits.
-fn read_number(text: &[u8]) -> OptionU32
-    ensures { λ r. ⌜ numberIn r ≡ number (now (text .entry)) ⌝ }
+fn read_number(text: &[u8]) -> OptionU64
+    ensures { λ r. ⌜ optionOf r ≡ number (now (text .entry)) ⌝ }
 {
     if text.len() == 0 {
-        return OptionU32::None;
+        return OptionU64::None;
     }
     let read = plan_text::read_digits(text);
     let OptionU64::Some(n) = read else {
-        return OptionU32::None;
+        return OptionU64::None;
     };
     if n <= 4_294_967_295 {
-        OptionU32::Some(n as u32)
+        OptionU64::Some(n)
     } else {
-        OptionU32::None
+        OptionU64::None
     }
 }
 

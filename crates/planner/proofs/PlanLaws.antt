@@ -9,7 +9,7 @@ use lib.ListN.{length}
 use borrow.Author.Tests.{le-leb, lt-leb, le-ltb}
 use Rattle.header.specs.declared.FrameHeader.{FrameHeader}
 use Rattle.header.specs.Header.{channelsOf}
-use Rattle.slots.specs.Slots.{rowsOf}
+use Rattle.layout.specs.Slots.{smrRows}
 use Rattle.plan_words.specs.declared.Words.{Words}
 use Rattle.plan_words.specs.declared.WordsAnswer.{WordsAnswer}
 use Rattle.plan_words.specs.declared.WordsAnswer.the-variants as Word
@@ -17,13 +17,13 @@ use Rattle.plan_words.specs.Line.{wordsOf}
 use Rattle.plan_ratios.specs.declared.Ratios.{Ratios}
 use Rattle.plan_ratios.specs.declared.RatiosAnswer.{RatiosAnswer}
 use Rattle.plan_ratios.specs.declared.RatiosAnswer.the-variants as Ratio
-use Rattle.plan_ratios.specs.Ratios.{slotsOf, ratiosOf}
+use Rattle.plan_ratios.specs.Ratios.{ratiosOf}
 use Rattle.plan_page.specs.Page.{pageOf}
 use Rattle.text_line.specs.declared.Line.{Line}
 use Rattle.text_line.specs.Line.{textOf}
 use Rattle.planner.specs.declared.PlanLine.{PlanLine}
 use Rattle.planner.specs.Notes.{wordsLine, ratiosLine, longWordsLine, longInputLine}
-use Rattle.planner.specs.Planner.{wantsRatios, wordsAccepted, ratiosAccepted, withRatios, withWords, planOf, LineIs}
+use Rattle.planner.specs.Planner.{slotsFor, wantsRatios, wordsAccepted, ratiosAccepted, withRatios, withWords, planOf, LineIs}
 
 -- the same page
 pub moved : {page other : List (List ℕ)} {n : ℕ} {r : PlanLine} → page ≡ other → LineIs page n r → LineIs other n r
@@ -41,11 +41,11 @@ none-behind l z (suc n) h e = record { there = sym (le-ltb (suc n) 1 (omega arit
 -- ---- with ratios
 
 module _ (h : FrameHeader) (banc : ℕ) (r : Ratios) where
-  pub good-ratios : r .answer ≡ Ratio.Accepted → (smr : List (List Float)) → smr ≡ rowsOf (r .ratios) → pageOf h banc smr ≡ withRatios h banc r
+  pub good-ratios : r .answer ≡ Ratio.Accepted → (smr : List (List Float)) → smr ≡ smrRows (r .ratios) → pageOf h banc smr ≡ withRatios h banc r
   unfolding withRatios
   good-ratios e smr q = rw (ap ratiosAccepted e) (ap (pageOf h banc) q)
 
-  pub bad-ratios : (a : RatiosAnswer) (t : List ℕ) (slots : ℕ) → r .answer ≡ a → ratiosAccepted a ≡ false → slots ≡ slotsOf (channelsOf (h .mode))
+  pub bad-ratios : (a : RatiosAnswer) (t : List ℕ) (slots : ℕ) → r .answer ≡ a → ratiosAccepted a ≡ false → slots ≡ slotsFor h
     → t ≡ ratiosLine a (r .line) (r .count) slots → t ∷ [] ≡ withRatios h banc r
   unfolding withRatios
   bad-ratios a t slots e f q g =
@@ -56,7 +56,7 @@ module _ (h : FrameHeader) (banc : ℕ) (r : Ratios) where
 -- ---- with words
 
 module _ (words : List ℕ) (w : Words) (input : List ℕ) where
-  pub good-words : w .answer ≡ Word.Accepted → (channels : ℕ) (r : Ratios) → channels ≡ channelsOf (w .header .mode) → r ≡ ratiosOf channels input
+  pub good-words : w .answer ≡ Word.Accepted → (slots : ℕ) (r : Ratios) → slots ≡ slotsFor (w .header) → r ≡ ratiosOf slots input
     → withRatios (w .header) (w .banc) r ≡ withWords words w input
   unfolding withWords
   good-words e channels r q g =

@@ -6,7 +6,7 @@ use Rattle.plan_words.specs.declared.WordsAnswer.{WordsAnswer}
 use Rattle.plan_words.specs.declared.WordsAnswer.the-variants as Words
 use Rattle.plan_ratios.specs.declared.RatiosAnswer.{RatiosAnswer}
 use Rattle.plan_ratios.specs.declared.RatiosAnswer.the-variants as Ratios
-use Rattle.text_line.specs.Line.{text}
+use Rattle.plan_text.specs.Quoted.{text}
 use Rattle.text_line.specs.Number.{numberText}
 
 -- a word, from `at` to before `end`; of a long one the first 80 bytes

@@ -1,5 +1,5 @@
 -- What the planner prints, from the words of its command line, each ended by a byte 0, and from its input.
-use Prim.Native.Nat.{ℕ}
+use Prim.Native.Nat.{ℕ, _*_}
 use mathlib.Core.Path.{_≡_}
 use mathlib.Core.Bool.{Bool, true, false, cond}
 use mathlib.Core.List.{List, [], _∷_}
@@ -7,7 +7,7 @@ use lib.Dec.{leb, ltb}
 use lib.ListN.{length, getD}
 use Rattle.header.specs.declared.FrameHeader.{FrameHeader}
 use Rattle.header.specs.Header.{channelsOf}
-use Rattle.slots.specs.Slots.{rowsOf}
+use Rattle.layout.specs.Slots.{smrRows}
 use Rattle.plan_words.specs.declared.Words.{Words}
 use Rattle.plan_words.specs.declared.WordsAnswer.{WordsAnswer}
 use Rattle.plan_words.specs.declared.WordsAnswer.the-variants as Word
@@ -15,7 +15,7 @@ use Rattle.plan_words.specs.Line.{wordsOf}
 use Rattle.plan_ratios.specs.declared.Ratios.{Ratios}
 use Rattle.plan_ratios.specs.declared.RatiosAnswer.{RatiosAnswer}
 use Rattle.plan_ratios.specs.declared.RatiosAnswer.the-variants as Ratio
-use Rattle.plan_ratios.specs.Ratios.{slotsOf, ratiosOf}
+use Rattle.plan_ratios.specs.Ratios.{ratiosOf}
 use Rattle.plan_page.specs.Page.{pageOf}
 use Rattle.text_line.specs.Line.{textOf}
 use Rattle.planner.specs.declared.PlanLine.{PlanLine}
@@ -34,18 +34,22 @@ ratiosAccepted Ratio.CannotRead = false
 ratiosAccepted Ratio.TooMany = false
 ratiosAccepted Ratio.TooFew = false
 
+-- how many ratios a header asks for: 32 for each channel
+abbrev pub slotsFor : FrameHeader → ℕ
+slotsFor h = 32 * channelsOf (h .mode)
+
 -- with ratios: the page, or the line that says what is wrong with them
 unfoldable pub withRatios : FrameHeader → ℕ → Ratios → List (List ℕ)
 withRatios h banc r =
     cond (ratiosAccepted (r .answer))
-    (pageOf h banc (rowsOf (r .ratios)))
-    (ratiosLine (r .answer) (r .line) (r .count) (slotsOf (channelsOf (h .mode))) ∷ [])
+    (pageOf h banc (smrRows (r .ratios)))
+    (ratiosLine (r .answer) (r .line) (r .count) (slotsFor h) ∷ [])
 
 -- with words: what the ratios give, or the line that says what is wrong with the words
 unfoldable pub withWords : List ℕ → Words → List ℕ → List (List ℕ)
 withWords words w input =
     cond (wordsAccepted (w .answer))
-    (withRatios (w .header) (w .banc) (ratiosOf (channelsOf (w .header .mode)) input))
+    (withRatios (w .header) (w .banc) (ratiosOf (slotsFor (w .header)) input))
     (wordsLine words (w .answer) (w .at) (w .end) ∷ [])
 
 -- words that are not accepted are told without asking for ratios

@@ -3,11 +3,11 @@ mod notes;
 
 ghost use mathlib.Core.Path.{_≡_};
 ghost use mathlib.Core.List.{[], _∷_};
-ghost use Rattle.plan_ratios.specs.Ratios.{slotsOf};
 ghost use Rattle.plan_page.specs.Page.{pageOf};
 ghost use Rattle.text_line.specs.Line.{textOf};
-ghost use Rattle.planner.specs.Planner.{withRatios, withWords, wantsRatios, planOf, LineIs};
+ghost use Rattle.planner.specs.Planner.{slotsFor, withRatios, withWords, wantsRatios, planOf, LineIs};
 use header::FrameHeader;
+use layout::slots;
 use plan_ratios::Ratios;
 use plan_ratios::RatiosAnswer;
 use plan_words::Words;
@@ -57,7 +57,7 @@ fn with_words(words: &[u8], read: Words, input: &[u8], n: usize) -> PlanLine
     match answer {
         WordsAnswer::Accepted => {
             let header = read.header;
-            let ratios = plan_ratios::read_ratios(input, header.channels());
+            let ratios = plan_ratios::read_ratios(input, slots_for(header));
             with_ratios(header, read.banc, ratios, n)
         }
         WordsAnswer::Unknown => only(notes::unknown_word(words, read.at, read.end), n),
@@ -72,7 +72,7 @@ fn with_ratios(header: FrameHeader, banc: u32, read: Ratios, n: usize) -> PlanLi
     ensures { λ r. ⌜ LineIs (withRatios header banc read) n r ⌝ }
 {
     let answer = read.answer;
-    let slots = slots_of(header.channels());
+    let slots = slots_for(header) as u64;
     match answer {
         RatiosAnswer::Accepted => {
             let ratios = read.ratios;
@@ -107,9 +107,9 @@ fn only(line: Line, n: usize) -> PlanLine
     }
 }
 
-// How many ratios the channels of a mode have.
-fn slots_of(channels: usize) -> u64
-    ensures { λ r. ⌜ r ≡ slotsOf channels ⌝ }
+// How many ratios a header asks for.
+fn slots_for(header: FrameHeader) -> usize
+    ensures { λ r. ⌜ r ≡ slotsFor header ⌝ }
 {
-    if channels == 1 { 32 } else { 64 }
+    32 * header.channels()
 }

@@ -1,7 +1,8 @@
 // The lines that stand alone where the words or the ratios cannot be read.
 ghost use mathlib.Core.Path.{_≡_};
 ghost use mathlib.Core.List.{_++_};
-ghost use Rattle.text_line.specs.Line.{text, textOf, cut};
+ghost use Rattle.plan_text.specs.Quoted.{text};
+ghost use Rattle.text_line.specs.Line.{textOf, cut};
 ghost use Rattle.planner.specs.Notes.{excerpt, unknownText, twiceText, onLine, cannotReadText, tooManyText, tooFewText, longWordsLine, longInputLine};
 use text_line::Line;
 

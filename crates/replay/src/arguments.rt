@@ -1,11 +1,11 @@
 // The arguments of a line: from its numbers to values of the library's types.
 use audio_data::Scfsi;
-use bitalloc::BitAllocTable;
-use bitalloc::OptionTable;
 use bitalloc::OptionU32;
 use header::FrameHeader;
 use header::Mode;
 use header::ModeExtension;
+use header::OptionExtension;
+use header::OptionMode;
 
 // The double of a bit pattern; NaN for each of NaN's patterns.
 pub fn double(bits: u64) -> f64 {
@@ -40,47 +40,6 @@ pub fn i64_of(bits: u64) -> i64 {
         bits as i64
     } else {
         !((u64::MAX - bits) as i64)
-    }
-}
-
-pub fn table_of(n: u64) -> OptionTable {
-    match n {
-        0 => OptionTable::Some(BitAllocTable::B2a),
-        1 => OptionTable::Some(BitAllocTable::B2b),
-        2 => OptionTable::Some(BitAllocTable::B2c),
-        3 => OptionTable::Some(BitAllocTable::B2d),
-        4 => OptionTable::Some(BitAllocTable::B1Lsf),
-        _ => OptionTable::None,
-    }
-}
-
-pub enum OptionMode {
-    Some(Mode),
-    None,
-}
-
-pub fn mode_of(n: u64) -> OptionMode {
-    match n {
-        0 => OptionMode::Some(Mode::Stereo),
-        1 => OptionMode::Some(Mode::JointStereo),
-        2 => OptionMode::Some(Mode::DualChannel),
-        3 => OptionMode::Some(Mode::SingleChannel),
-        _ => OptionMode::None,
-    }
-}
-
-pub enum OptionExtension {
-    Some(ModeExtension),
-    None,
-}
-
-pub fn extension_of(n: u64) -> OptionExtension {
-    match n {
-        0 => OptionExtension::Some(ModeExtension::Bound4),
-        1 => OptionExtension::Some(ModeExtension::Bound8),
-        2 => OptionExtension::Some(ModeExtension::Bound12),
-        3 => OptionExtension::Some(ModeExtension::Bound16),
-        _ => OptionExtension::None,
     }
 }
 
@@ -119,10 +78,10 @@ pub fn header_of(numbers: &[u64; 256]) -> OptionHeader {
     let OptionU32::Some(sample_rate) = u32_of(numbers[3]) else {
         return OptionHeader::None;
     };
-    let OptionMode::Some(mode) = mode_of(numbers[6]) else {
+    let OptionMode::Some(mode) = Mode::of_code(numbers[6]) else {
         return OptionHeader::None;
     };
-    let OptionExtension::Some(mode_extension) = extension_of(numbers[7]) else {
+    let OptionExtension::Some(mode_extension) = ModeExtension::of_code(numbers[7]) else {
         return OptionHeader::None;
     };
     OptionHeader::Some(FrameHeader {

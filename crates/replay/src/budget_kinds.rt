@@ -1,12 +1,11 @@
 // Kinds of a frame's bits: those that are fixed, offered and demanded, and their allocation.
 use crate::answers::bits_of;
-use crate::answers::table_number;
 use crate::arguments::OptionHeader;
 use crate::arguments::header_of;
 use crate::arguments::i64_of;
 use crate::arguments::read_doubles;
-use crate::arguments::table_of;
 use crate::arguments::u32_of;
+use bitalloc::BitAllocTable;
 use bitalloc::OptionTable;
 use bitalloc::OptionU32;
 use encoder_bit_allocator::Allocation;
@@ -59,7 +58,7 @@ fn budget_numbers(budget: Budget) -> [u64; 9] {
         b.sblimit as u64,
         b.bound as u64,
         b.channels as u64,
-        table_number(table),
+        table.number() as u64,
     ]
 }
 
@@ -149,7 +148,7 @@ fn wide(steps: u32) -> u64 {
 
 // cb bhdr bcrc bbal sblimit bound channels table -> the bits that are fixed. The budget may be one that no header has.
 pub fn fixed(count: usize, numbers: &[u64; 256]) -> Verdict {
-    let OptionTable::Some(table) = table_of(numbers[8]) else {
+    let OptionTable::Some(table) = BitAllocTable::numbered(numbers[8]) else {
         return Verdict::Unread;
     };
     let budget = FixedBitBudget {

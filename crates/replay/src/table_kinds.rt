@@ -1,20 +1,19 @@
 // Kinds of headers, allocation tables, classes of quantization and multipliers.
 use crate::answers::bits_of;
 use crate::answers::flag;
-use crate::answers::table_number;
-use crate::arguments::OptionExtension;
 use crate::arguments::OptionHeader;
-use crate::arguments::OptionMode;
-use crate::arguments::extension_of;
 use crate::arguments::header_of;
-use crate::arguments::mode_of;
-use crate::arguments::table_of;
 use crate::arguments::u32_of;
+use bitalloc::BitAllocTable;
 use bitalloc::OptionClass;
 use bitalloc::OptionTable;
 use bitalloc::OptionU32;
 use bitalloc::QuantClass;
 use header::FrameSize;
+use header::Mode;
+use header::ModeExtension;
+use header::OptionExtension;
+use header::OptionMode;
 use replay_answers::Verdict;
 use replay_answers::found_verdict;
 use replay_answers::pair_verdict;
@@ -23,7 +22,7 @@ use replay_answers::verdict_of;
 
 // Table -> sblimit.
 pub fn sblimit(count: usize, numbers: &[u64; 256]) -> Verdict {
-    let OptionTable::Some(table) = table_of(numbers[1]) else {
+    let OptionTable::Some(table) = BitAllocTable::numbered(numbers[1]) else {
         return Verdict::Unread;
     };
     verdict_of(count == 3, table.sblimit() as u64 == numbers[2])
@@ -31,7 +30,7 @@ pub fn sblimit(count: usize, numbers: &[u64; 256]) -> Verdict {
 
 // Table sb -> nbal.
 pub fn nbal(count: usize, numbers: &[u64; 256]) -> Verdict {
-    let OptionTable::Some(table) = table_of(numbers[1]) else {
+    let OptionTable::Some(table) = BitAllocTable::numbered(numbers[1]) else {
         return Verdict::Unread;
     };
     let sb = numbers[2] as usize;
@@ -40,7 +39,7 @@ pub fn nbal(count: usize, numbers: &[u64; 256]) -> Verdict {
 
 // Table sb index -> found steps.
 pub fn nb_steps(count: usize, numbers: &[u64; 256]) -> Verdict {
-    let OptionTable::Some(table) = table_of(numbers[1]) else {
+    let OptionTable::Some(table) = BitAllocTable::numbered(numbers[1]) else {
         return Verdict::Unread;
     };
     let OptionU32::Some(index) = u32_of(numbers[3]) else {
@@ -57,7 +56,7 @@ pub fn nb_steps(count: usize, numbers: &[u64; 256]) -> Verdict {
 
 // Table sb steps -> found index.
 pub fn allocation_index(count: usize, numbers: &[u64; 256]) -> Verdict {
-    let OptionTable::Some(table) = table_of(numbers[1]) else {
+    let OptionTable::Some(table) = BitAllocTable::numbered(numbers[1]) else {
         return Verdict::Unread;
     };
     let OptionU32::Some(steps) = u32_of(numbers[3]) else {
@@ -74,7 +73,7 @@ pub fn allocation_index(count: usize, numbers: &[u64; 256]) -> Verdict {
 
 // Mode -> channels.
 pub fn mode_channels(count: usize, numbers: &[u64; 256]) -> Verdict {
-    let OptionMode::Some(mode) = mode_of(numbers[1]) else {
+    let OptionMode::Some(mode) = Mode::of_code(numbers[1]) else {
         return Verdict::Unread;
     };
     verdict_of(count == 3, mode.channels() as u64 == numbers[2])
@@ -82,7 +81,7 @@ pub fn mode_channels(count: usize, numbers: &[u64; 256]) -> Verdict {
 
 // Extension -> bound.
 pub fn bound(count: usize, numbers: &[u64; 256]) -> Verdict {
-    let OptionExtension::Some(extension) = extension_of(numbers[1]) else {
+    let OptionExtension::Some(extension) = ModeExtension::of_code(numbers[1]) else {
         return Verdict::Unread;
     };
     verdict_of(count == 3, extension.bound() as u64 == numbers[2])
@@ -131,7 +130,7 @@ pub fn select_table(count: usize, numbers: &[u64; 256]) -> Verdict {
         OptionTable::Some(table) => pair_verdict(
             count == 10,
             1,
-            table_number(table),
+            table.number() as u64,
             numbers[8],
             numbers[9],
         ),

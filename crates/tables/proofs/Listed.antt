@@ -1,9 +1,9 @@
 -- Laws of a list given entry by entry, and of a loop that fills an array from the front.
-use mathlib.Core.Path.{_≡_, refl, ap, sym, _∙_, subst}
-use mathlib.Core.List.{List}
+use mathlib.Core.Path.{_≡_, refl, sym, ap, ap₂, _∙_, subst}
+use mathlib.Core.List.{List, [], _∷_, map}
 use mathlib.Core.Logic.{⊎-elim}
-use Prim.Native.Nat.{ℕ, zero, suc, _+_, _<_}
-use native.Mathlib.Nat.{le-of-suc-le-suc, not-suc-le-zero, eq-or-lt-of-le}
+use Prim.Native.Nat.{ℕ, zero, suc, _+_, _<_, suc-le-suc}
+use native.Mathlib.Nat.{le-of-suc-le-suc, not-suc-le-zero, eq-or-lt-of-le, zero-lt-suc}
 use native.Mathlib.Numerals.{add-one}
 use native.Mathlib.Omega.{arith}
 use lib.ListN.{length, getD, set}
@@ -26,6 +26,11 @@ module _ {A : Type 0} where
       ext-getD d xs (tabulate n f) (e ∙ sym (length-tabulate n f))
       (λ k l. let h : k < n = subst (λ (m : ℕ). k < m) e l in b k h ∙ sym (tabulated n f k d h))
 
+  -- two functions that agree make the same list
+  pub tabulate-same : (n : ℕ) (f g : ℕ → A) → ((k : ℕ) → k < n → f k ≡ g k) → tabulate n f ≡ tabulate n g
+  tabulate-same zero f g e = refl
+  tabulate-same (suc n) f g e = ap₂ _∷_ (e zero (zero-lt-suc n)) (tabulate-same n (λ k. f (suc k)) (λ k. g (suc k)) (λ k h. e (suc k) (suc-le-suc h)))
+
   -- one more entry is filled in
   pub filled : (P : ℕ → A → Type 0) (xs : List A) (i : ℕ) (a d : A) → i < length xs → ((k : ℕ) → k < i → P k (getD xs k d)) → P i a
     → (k : ℕ) → k < i + 1 → P k (getD (set xs i a) k d)
@@ -34,3 +39,9 @@ module _ {A : Type 0} where
       (λ e. subst (λ (j : ℕ). P j (getD (set xs i a) j d)) (sym e) (subst (P i) (sym (getD-set-same xs i a d h)) p))
       (λ m. subst (P k) (sym (getD-set-other xs i k a d (λ e. let q = m in omega arith))) (b k m))
       (eq-or-lt-of-le (le-of-suc-le-suc (subst (λ (m : ℕ). k < m) (add-one i) l)))
+
+-- an entry of a list whose entries are each changed
+pub map-at : {A B : Type 0} (g : A → B) (xs : List A) (i : ℕ) (d : A) (d′ : B) → i < length xs → getD (map g xs) i d′ ≡ g (getD xs i d)
+map-at g [] i d d′ h = absurd (not-suc-le-zero h)
+map-at g (x ∷ xs) zero d d′ h = refl
+map-at g (x ∷ xs) (suc i) d d′ h = map-at g xs i d d′ (le-of-suc-le-suc h)

@@ -5,9 +5,10 @@ use lib.Ieee.{nan, inf, fin, neg, mul, lt}
 use lib.IntN.{negsuc}
 use Rattle.tables.specs.Decimal.{decimal}
 use Rattle.encoder_samples.specs.Samples.{clamped}
-use Rattle.text_line.specs.Line.{text, aligned}
+use Rattle.plan_text.specs.Quoted.{text}
+use Rattle.text_line.specs.Line.{aligned}
 use Rattle.text_line.specs.Number.{digitsOf, numberText}
-use Rattle.text_line.specs.Ratio.{hundredthsOf, ratioText}
+use Rattle.text_line.specs.Decibels.{hundredthsOf, decibelsText}
 
 naught : numberText 0 ≡ text "0"
 unfolding digitsOf
@@ -22,31 +23,31 @@ unfolding aligned digitsOf
 wider-than-its-column = refl
 
 -- 20 dB
-twenty : ratioText (decimal 0 20) ≡ text "20.00"
-unfolding ratioText hundredthsOf clamped decimal mul lt digitsOf
+twenty : decibelsText (decimal 0 20) ≡ text "20.00"
+unfolding decibelsText hundredthsOf clamped decimal mul lt digitsOf
 twenty = refl
 
-half-way : ratioText (decimal 3 12_345) ≡ text "12.35"
-unfolding ratioText hundredthsOf clamped decimal mul lt digitsOf
+half-way : decibelsText (decimal 3 12_345) ≡ text "12.35"
+unfolding decibelsText hundredthsOf clamped decimal mul lt digitsOf
 half-way = refl
 
-negative : ratioText (neg (decimal 2 4_75)) ≡ text "-4.75"
-unfolding ratioText hundredthsOf clamped decimal neg mul lt digitsOf
+negative : decibelsText (neg (decimal 2 4_75)) ≡ text "-4.75"
+unfolding decibelsText hundredthsOf clamped decimal neg mul lt digitsOf
 negative = refl
 
 -- 1/256 dB below 0: no hundredths, and no minus sign
-small : ratioText (fin true 1 (negsuc 7)) ≡ text "0.00"
-unfolding ratioText hundredthsOf clamped mul lt digitsOf
+small : decibelsText (fin true 1 (negsuc 7)) ≡ text "0.00"
+unfolding decibelsText hundredthsOf clamped mul lt digitsOf
 small = refl
 
-large : ratioText (decimal 0 100_000) ≡ text ">99999"
-unfolding ratioText hundredthsOf clamped decimal mul lt
+large : decibelsText (decimal 0 100_000) ≡ text ">99999"
+unfolding decibelsText hundredthsOf clamped decimal mul lt
 large = refl
 
-below-all : ratioText (inf true) ≡ text "-inf"
-unfolding ratioText
+below-all : decibelsText (inf true) ≡ text "-inf"
+unfolding decibelsText
 below-all = refl
 
-no-number : ratioText nan ≡ text "nan"
-unfolding ratioText
+no-number : decibelsText nan ≡ text "nan"
+unfolding decibelsText
 no-number = refl

@@ -1,4 +1,4 @@
 pub mod LineLaws
 pub mod NumberLaws
-pub mod RatioLaws
+pub mod DecibelsLaws
 pub mod Examples

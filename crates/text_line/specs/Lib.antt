@@ -1,3 +1,3 @@
 pub mod Line
 pub mod Number
-pub mod Ratio
+pub mod Decibels

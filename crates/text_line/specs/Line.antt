@@ -1,17 +1,11 @@
 -- What a line says, and columns.
 use Prim.Native.Nat.{ℕ, _-_, _≤_}
 use Prim.Native.Char.{code}
-use Prim.Native.String.{String, [] as []ˢ, _∷_ as _∷ˢ_}
 use mathlib.Core.Path.{_≡_}
 use mathlib.Core.List.{List, [], _∷_, _++_}
 use lib.ListN.{length, take, replicate}
 use Rattle.text_line.specs.declared.Line.{Line}
 use Rattle.text_line.specs.declared.EndedLine.{EndedLine}
-
--- a text as the codes of its characters
-abbrev pub text : String → List ℕ
-text []ˢ = []
-text (c ∷ˢ s) = code c ∷ text s
 
 -- a line's text
 abbrev pub textOf : Line → List ℕ

@@ -1,4 +1,4 @@
-// A line of text, built from the left: texts, numbers, ratios in decibels to the hundredth, and columns that are aligned to the right.
+// A line of text, built from the left: texts, numbers, decibels to the hundredth, and columns that are aligned to the right.
 // A line holds 256 bytes; what is beyond them is cut off.
 ghost use mathlib.Core.Path.{_≡_};
 ghost use mathlib.Core.Bool.{cond};
@@ -6,9 +6,10 @@ ghost use mathlib.Core.List.{[], _++_};
 ghost use Prim.Native.Nat.{_+_, _-_, _≤_, min};
 ghost use lib.ListN.{length};
 ghost use lib.Seq.{paste};
-ghost use Rattle.text_line.specs.Line.{text, textOf, cut, spaces, aligned, EndedIs};
+ghost use Rattle.plan_text.specs.Quoted.{text};
+ghost use Rattle.text_line.specs.Line.{textOf, cut, spaces, aligned, EndedIs};
 ghost use Rattle.text_line.specs.Number.{numberText};
-ghost use Rattle.text_line.specs.Ratio.{minusText, hundredthsOf, hundredthsText, finiteText, ratioText};
+ghost use Rattle.text_line.specs.Decibels.{minusText, hundredthsOf, hundredthsText, finiteText, decibelsText};
 
 // The text is the first `length` bytes.
 pub struct Line {
@@ -94,9 +95,9 @@ impl Line {
         self.aligned(width, Line::new().number(n))
     }
 
-    // With a ratio in decibels behind, to the hundredth.
-    pub fn ratio(self, x: f64) -> Line
-        ensures { λ r. ⌜ textOf r ≡ cut (textOf self ++ ratioText x) ⌝ }
+    // With a figure in decibels behind, to the hundredth.
+    pub fn decibels(self, x: f64) -> Line
+        ensures { λ r. ⌜ textOf r ≡ cut (textOf self ++ decibelsText x) ⌝ }
     {
         let infinity = 1.0 / 0.0;
         let magnitude = ieee_order::abs(x);
@@ -109,14 +110,14 @@ impl Line {
         }
     }
 
-    // With a ratio behind, at the right of a column.
-    pub fn ratio_in(self, width: usize, x: f64) -> Line
-        ensures { λ r. ⌜ textOf r ≡ cut (textOf self ++ aligned width (ratioText x)) ⌝ }
+    // With a figure in decibels behind, at the right of a column.
+    pub fn decibels_in(self, width: usize, x: f64) -> Line
+        ensures { λ r. ⌜ textOf r ≡ cut (textOf self ++ aligned width (decibelsText x)) ⌝ }
     {
-        self.aligned(width, Line::new().ratio(x))
+        self.aligned(width, Line::new().decibels(x))
     }
 
-    // With a finite ratio behind, from whether it is below 0 and its hundredths.
+    // With a finite figure behind, from whether it is below 0 and its hundredths.
     fn finite(self, below: bool, hundredths: u64) -> Line
         ensures { λ r. ⌜ textOf r ≡ cut (textOf self ++ finiteText below hundredths) ⌝ }
     {
@@ -136,7 +137,7 @@ impl Line {
         self.number(hundredths / 100).text(b".").text(&digits)
     }
 
-    // With what stands for a ratio of too many digits behind.
+    // With what stands for a figure of too many digits behind.
     fn beyond(self, below: bool) -> Line
         ensures { λ r. ⌜ textOf r ≡ cut (textOf self ++ cond below (text "<-99999") (text ">99999")) ⌝ }
     {

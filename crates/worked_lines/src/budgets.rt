@@ -1,6 +1,5 @@
 // Lines of headers: their tables and the bits of their frames, and what ratios demand.
 use crate::show;
-use bitalloc::BitAllocTable;
 use bitalloc::OptionTable;
 use encoder_bit_budget::Budget;
 use header::FrameHeader;
@@ -56,17 +55,12 @@ fn answers(header: FrameHeader) -> [u64; 5] {
     ]
 }
 
+// From 1 on; 0 where there is none.
 fn table_number(found: OptionTable) -> u64 {
     let OptionTable::Some(table) = found else {
         return 0;
     };
-    match table {
-        BitAllocTable::B2a => 1,
-        BitAllocTable::B2b => 2,
-        BitAllocTable::B2c => 3,
-        BitAllocTable::B2d => 4,
-        BitAllocTable::B1Lsf => 5,
-    }
+    1 + table.number() as u64
 }
 
 fn bytes(header: FrameHeader) -> u64 {

@@ -1,28 +1,34 @@
--- `encoder_bit_allocator::lay_field` meets its contract. The loop's invariant: whatever table the row is of, the places so far are laid.
+-- `encoder_bit_allocator::lay_field` meets its contract. The loop's invariant: whatever layout the field is of, the places so far are laid.
 use Prim.Native.Nat.{ℕ, _+_, _-_, _*_, _≤_, _<_}
-use mathlib.Core.Path.{_≡_, sym, ap, _∙_, subst}
+use mathlib.Core.Path.{_≡_, refl, subst}
 use native.Mathlib.Omega.{arith}
-use lib.Dec.{eqb}
 use lib.ListN.{length, length-set}
+use Rattle.bitalloc.proofs.RowLaws.{sblimit-small}
+use Rattle.layout.specs.declared.Layout.{Layout}
+use Rattle.encoder_bit_allocator.specs.Entries.{entriesOf}
+use Rattle.encoder_bit_allocator.specs.Laid.{LaidOut, Modest}
+use Rattle.encoder_bit_allocator.proofs.LaidLaws.{Begun, begin, go-on, end}
 use borrow.Author.Needs.{needs}
-use Rattle.bitalloc.specs.declared.BitAllocTable.{BitAllocTable}
-use Rattle.bitalloc.specs.Storage.{rowOf16}
-use Rattle.encoder_bit_allocator.specs.Numbering.{LaidOut}
-use Rattle.encoder_bit_allocator.proofs.CodeLaws.{field-begun, one-more-laid, field-laid, low-field}
 use Rattle.encoder_bit_allocator.proofs.lay_field.Statement.{statement}
 use Rattle.encoder_bit_allocator.proofs.lay_field.Tie as tie
 
 abbrev Inv-loop : tie.InvT-loop
-Inv-loop smr-db bound channels number ratios₀ charges₀ field row places start p₀ ratios charges p =
-    (p ≤ places) × ((length ratios ≡ 1024) × ((length charges ≡ 1024)
-    × ((t : BitAllocTable) → row ≡ rowOf16 t (field .subband) → LaidOut t smr-db (eqb channels 1) bound (16 * number) ratios₀ charges₀
-    → LaidOut t smr-db (eqb channels 1) bound (16 * number + p) ratios charges)))
+Inv-loop smr-db costs number mnrs₀ charges₀ field first-step row places start p₀ mnrs charges p =
+    (p ≤ places) × ((length mnrs ≡ 1024) × ((length charges ≡ 1024)
+    × ((l : Layout) → Begun l costs number field first-step row → LaidOut (entriesOf l smr-db costs) (16 * number) mnrs₀ charges₀
+    → LaidOut (entriesOf l smr-db costs) (16 * number + p) mnrs charges)))
 
 abbrev μ-loop : tie.MeasureT-loop
-μ-loop smr-db bound channels number ratios₀ charges₀ field row places start p₀ ratios charges p = places - p
+μ-loop smr-db costs number mnrs₀ charges₀ field first-step row places start p₀ mnrs charges p = places - p
 
-field-numbered-requires : tie.Need-field-numbered-requires Inv-loop μ-loop
-field-numbered-requires c κs = search needs
+field-requires : tie.Need-field-requires Inv-loop μ-loop
+field-requires c κs = search needs
+
+mul-first-step : tie.Need-mul-first-step Inv-loop μ-loop
+mul-first-step c = search needs
+
+element-copy-out-first-step : tie.Need-element-copy-out-first-step Inv-loop μ-loop
+element-copy-out-first-step c = search needs
 
 row-requires : tie.Need-row-requires Inv-loop μ-loop
 row-requires c κs = search needs
@@ -35,8 +41,8 @@ mul-start c = search needs
 
 loop-holds : tie.Need-loop-holds Inv-loop μ-loop
 loop-holds c =
-    let l = c .before .before .before .pre .3 in
-    (search needs, (l .long, (l .wide, λ t e laid. field-begun t _ _ _ _ _ _ laid)))
+    let laid = c .before .before .before .before .pre .3 in
+    (search needs, (laid .long, (laid .wide, λ l b laid. begin l _ _ _ _ _ _ b _ _ laid)))
 
 mul-nb-steps : tie.Need-mul-nb-steps Inv-loop μ-loop
 mul-nb-steps c = search needs
@@ -47,23 +53,28 @@ array-read-nb-steps c = search needs
 add-at : tie.Need-add-at Inv-loop μ-loop
 add-at c = search needs
 
-ratio-at-requires : tie.Need-ratio-at-requires Inv-loop μ-loop
-ratio-at-requires c κs =
-    let f = c .before .before .before .before in
-    let a = f .before in
-    (
-      let h = low-field (eqb (a .args .channels) 1) (a .args .bound) (a .args .number) _ (a .pre .2) (f .field-numbered .ensures) in omega arith,
-      f .field-numbered .ensures .channel
-    )
+field-mnr-requires : tie.Need-field-mnr-requires Inv-loop μ-loop
+field-mnr-requires c κs =
+    let field = c .before .before .before .before .before in
+    let is = field .field .ensures in
+    let low = is .carried in
+    let few = sblimit-small (field .before .args .layout .table) in
+    (omega arith, is .channel)
 
-mul-ratios : tie.Need-mul-ratios Inv-loop μ-loop
-mul-ratios c = search needs
+mul-mnrs : tie.Need-mul-mnrs Inv-loop μ-loop
+mul-mnrs c = search needs
 
-element-write-ratios : tie.Need-element-write-ratios Inv-loop μ-loop
-element-write-ratios c = search needs
+element-write-mnrs : tie.Need-element-write-mnrs Inv-loop μ-loop
+element-write-mnrs c = search needs
 
-charge-at-requires : tie.Need-charge-at-requires Inv-loop μ-loop
-charge-at-requires c κs = search needs
+charge-requires : tie.Need-charge-requires Inv-loop μ-loop
+charge-requires c κs = search needs
+
+cast-charges : tie.Need-cast-charges Inv-loop μ-loop
+unfolding Modest
+cast-charges c =
+    let start = c .before .before .before .before .before .before .before .before in
+    omega (arith, c .charge .ensures .most, start .pre .2 (start .args .number))
 
 mul-charges : tie.Need-mul-charges Inv-loop μ-loop
 mul-charges c = search needs
@@ -79,18 +90,16 @@ loop-less c = search needs
 
 loop-again : tie.Need-loop-again Inv-loop μ-loop
 loop-again c =
-    let l = c .before .before .before .loop in
-    let g = c .before .before .before .before in
-    let f = g .before .before in
-    let h : l .p < 16 = (let t = c .before .before .loop-test .taken in let n = g .places .ensures .1 in omega arith) in
+    let at = c .before .before .before in
+    let l = at .loop in
+    let h : l .p < 16 = (let t = c .before .before .loop-test .taken in let n = at .before .places .ensures .most in omega arith) in
     (
       search needs,
       (
         simp length-set (l .inv .1 .0),
         (
           simp length-set (l .inv .1 .1 .0),
-          λ t e laid. one-more-laid t _ _ _ _ (l .ratios) (l .charges) (l .p) _ _ _ _ (l .inv .1 .1 .1 t e laid) h (f .before .pre .1)
-          (f .field-numbered .ensures) e (c .before .ratio-at .ensures) (c .charge-at .ensures)
+          λ k b laid. go-on k _ _ _ _ _ _ b (l .mnrs) (l .charges) (l .p) _ _ (l .inv .1 .1 .1 k b laid) h (c .before .field-mnr .ensures) (c .charge .ensures .whole)
         )
       )
     )
@@ -98,11 +107,14 @@ loop-again c =
 returns : tie.Need-returns Inv-loop μ-loop
 returns c =
     let l = c .before .loop in
-    let g = c .before .before in
-    let f = g .before .before in
-    let a = f .before in
-    field-laid (a .args .table) _ _ _ _ (l .ratios) (l .charges) (l .p) _ (l .inv .1 .1 .1 (a .args .table) (g .before .row .ensures) (a .pre .3))
-    (f .field-numbered .ensures) (subst (λ (n : ℕ). n ≤ l .p) (g .places .ensures .0) (c .loop-test .left))
+    let places = c .before .before in
+    let row = places .before in
+    let field = row .before .before in
+    let start = field .before in
+    let b : Begun (start .args .layout) (start .args .costs .now) (start .args .number) (field .field .result) _ _ =
+        record { there = start .pre .0; is = field .field .ensures; cost = refl; read = row .row .ensures } in
+    end (start .args .layout) _ _ _ _ _ _ b (l .mnrs) (l .charges) (l .p) (l .inv .1 .1 .1 (start .args .layout) b (start .pre .3))
+    (subst (λ (n : ℕ). n ≤ l .p) (places .places .ensures .whole) (c .loop-test .left))
 
 pub lay-field-spec : {M : Type 1} → statement M
 lay-field-spec =
@@ -110,7 +122,9 @@ lay-field-spec =
     (tie.spec
     Inv-loop
     μ-loop
-    field-numbered-requires
+    field-requires
+    mul-first-step
+    element-copy-out-first-step
     row-requires
     places-requires
     mul-start
@@ -118,10 +132,11 @@ lay-field-spec =
     mul-nb-steps
     array-read-nb-steps
     add-at
-    ratio-at-requires
-    mul-ratios
-    element-write-ratios
-    charge-at-requires
+    field-mnr-requires
+    mul-mnrs
+    element-write-mnrs
+    charge-requires
+    cast-charges
     mul-charges
     element-write-charges
     add-p

@@ -2,30 +2,31 @@
 use Prim.Native.Nat.{ℕ, _-_, _*_, _≤_, _<_}
 use mathlib.Core.Path.{_≡_, subst}
 use native.Mathlib.Omega.{arith}
-use lib.Dec.{eqb}
 use borrow.Author.Needs.{needs}
-use Rattle.encoder_bit_allocator.specs.Numbering.{LaidOut}
-use Rattle.encoder_bit_allocator.proofs.CodeLaws.{none-laid}
+use Rattle.layout.proofs.FieldLaws.{few}
+use Rattle.encoder_bit_allocator.specs.Entries.{entriesOf}
+use Rattle.encoder_bit_allocator.specs.Laid.{LaidOut}
+use Rattle.encoder_bit_allocator.proofs.LaidLaws.{none-laid}
 use Rattle.encoder_bit_allocator.proofs.lay_out.Statement.{statement}
 use Rattle.encoder_bit_allocator.proofs.lay_out.Tie as tie
 
 abbrev Inv-loop : tie.InvT-loop
-Inv-loop table smr-db bound channels fields ratios₀ charges₀ f₀ ratios charges f =
-    (f ≤ fields) × LaidOut table smr-db (eqb channels 1) bound (16 * f) ratios charges
+Inv-loop layout smr-db costs fields mnrs₀ charges₀ f₀ mnrs charges f =
+    (f ≤ fields) × LaidOut (entriesOf layout smr-db costs) (16 * f) mnrs charges
 
 abbrev μ-loop : tie.MeasureT-loop
-μ-loop table smr-db bound channels fields ratios₀ charges₀ f₀ ratios charges f = fields - f
+μ-loop layout smr-db costs fields mnrs₀ charges₀ f₀ mnrs charges f = fields - f
 
 loop-holds : tie.Need-loop-holds Inv-loop μ-loop
-loop-holds c = (search needs, none-laid _ _ _ _ _ _ (c .pre .3) (c .pre .4))
+loop-holds c = (search needs, none-laid _ _ _ (c .pre .2) (c .pre .3))
 
 lay-field-requires : tie.Need-lay-field-requires Inv-loop μ-loop
 lay-field-requires c κs =
-    let i = c .before .before in
-    let l = i .before .loop in
-    let p = i .before .before .pre in
-    let t = i .loop-test .taken in
-    (p .0, omega arith, p .2 (l .f) t, l .inv .1)
+    let inside = c .before .before in
+    let l = inside .before .loop in
+    let start = inside .before .before in
+    let h = subst (λ (n : ℕ). l .f < n) (start .pre .0) (inside .loop-test .taken) in
+    (h, omega (arith, few (start .args .layout)), start .pre .1, l .inv .1)
 
 add-f : tie.Need-add-f Inv-loop μ-loop
 add-f c = search needs
@@ -39,9 +40,19 @@ loop-again c = (search needs, c .lay-field .ensures)
 returns : tie.Need-returns Inv-loop μ-loop
 returns c =
     let l = c .before .loop in
-    let a = c .before .before .args in
-    let e : l .f ≡ a .fields = (let h = l .inv .0 in let t = c .loop-test .left in omega arith) in
-    subst (λ (n : ℕ). LaidOut (a .table) (a .smr-db .now) (eqb (a .channels) 1) (a .bound) (16 * n) (l .ratios) (l .charges)) e (l .inv .1)
+    let given = c .before .before .args in
+    let e : l .f ≡ given .fields = (let h = l .inv .0 in let t = c .loop-test .left in omega arith) in
+    subst (λ (n : ℕ). LaidOut (entriesOf (given .layout) (given .smr-db .now) (given .costs .now)) (16 * n) (l .mnrs) (l .charges)) e (l .inv .1)
 
 pub lay-out-spec : {M : Type 1} → statement M
-lay-out-spec = tie.close (tie.spec Inv-loop μ-loop loop-holds lay-field-requires add-f loop-less loop-again returns)
+lay-out-spec =
+    tie.close
+    (tie.spec
+    Inv-loop
+    μ-loop
+    loop-holds
+    lay-field-requires
+    add-f
+    loop-less
+    loop-again
+    returns)

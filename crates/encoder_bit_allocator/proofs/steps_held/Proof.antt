@@ -4,26 +4,24 @@ use mathlib.Core.Path.{_≡_, refl}
 use native.Mathlib.Nat.{not-suc-le-zero}
 use native.Mathlib.Omega.{arith}
 use lib.ListN.{length, getD, length-set}
-use borrow.Author.Needs.{needs}
 use Rattle.tables.proofs.Listed.{filled, listed}
-use Rattle.encoder_bit_budget.specs.Layout.{fieldsBelow}
 use Rattle.encoder_bit_allocator.specs.Allocation.{stepsHeld, stepsOf}
+use borrow.Author.Needs.{needs}
 use Rattle.encoder_bit_allocator.proofs.steps_held.Statement.{statement}
 use Rattle.encoder_bit_allocator.proofs.steps_held.Tie as tie
 
 abbrev Inv-loop : tie.InvT-loop
-Inv-loop b places steps₀ slot₀ steps slot =
-    (slot ≤ 64) × ((length steps ≡ 64) × ((k : ℕ) → k < slot
-    → getD steps k 0 ≡ stepsHeld (fieldsBelow (b .bound) (b .channels) (b .sblimit)) (b .table) places (k / 32) (k % 32)))
+Inv-loop layout places steps₀ slot₀ steps slot =
+    (slot ≤ 64) × ((length steps ≡ 64) × ((k : ℕ) → k < slot → getD steps k 0 ≡ stepsHeld layout places (k / 32) (k % 32)))
 
 abbrev μ-loop : tie.MeasureT-loop
-μ-loop b places steps₀ slot₀ steps slot = 64 - slot
+μ-loop layout places steps₀ slot₀ steps slot = 64 - slot
 
 loop-holds : tie.Need-loop-holds Inv-loop μ-loop
 loop-holds c = (search needs, (refl, λ k h. absurd (not-suc-le-zero h)))
 
 steps-at-requires : tie.Need-steps-at-requires Inv-loop μ-loop
-steps-at-requires c κs = let p = c .before .before .pre in (search needs, p .0, p .1)
+steps-at-requires c κs = (search needs, c .before .before .pre)
 
 mul-steps : tie.Need-mul-steps Inv-loop μ-loop
 mul-steps c = search needs
@@ -40,14 +38,13 @@ loop-less c = search needs
 loop-again : tie.Need-loop-again Inv-loop μ-loop
 loop-again c =
     let l = c .before .before .loop in
-    let a = c .before .before .before .args in
+    let given = c .before .before .before .args in
     let h : l .slot < length (l .steps) = rw (l .inv .1 .0) (c .before .loop-test .taken) in
     (
       search needs,
       (
         simp length-set (l .inv .1 .0),
-        filled (λ k n. n ≡ stepsHeld (fieldsBelow (a .b .bound) (a .b .channels) (a .b .sblimit)) (a .b .table) (a .places .now) (k / 32) (k % 32))
-        (l .steps) (l .slot) _ 0 h (l .inv .1 .1) (c .steps-at .ensures)
+        filled (λ k n. n ≡ stepsHeld (given .layout) (given .places .now) (k / 32) (k % 32)) (l .steps) (l .slot) _ 0 h (l .inv .1 .1) (c .steps-at .ensures)
       )
     )
 

@@ -1,68 +1,65 @@
--- `encoder_bit_budget::allocation_bits` meets its contract. The loop's invariant: the sum over the fields of the subbands passed.
-use Prim.Native.Nat.{_*_, _-_, _≤_}
-use native.Mathlib.Nat.{mul-le-mul}
+-- `encoder_bit_budget::allocation_bits` meets its contract. The loop's invariant: the sum over the fields so far.
+use Prim.Native.Nat.{_*_, _-_, _≤_, _<_}
+use mathlib.Core.Path.{_≡_}
 use native.Mathlib.Omega.{arith}
-use mathlib.Core.Path.{_≡_, sym, ap₂, _∙_}
-use borrow.Author.Needs.{needs}
+use lib.ListN.{length, take}
+use Rattle.layout.specs.Layout.{fieldsOf, sumOver}
+use Rattle.layout.proofs.SumLaws.{added, summed}
 use Rattle.bitalloc.specs.Tables.{nbalOf}
-use Rattle.encoder_bit_budget.specs.Layout.{fieldsBelow, sumOver}
-use Rattle.encoder_bit_budget.proofs.FieldLaws.{counted, added, summed}
+use Rattle.encoder_bit_budget.specs.Budget.{allocationBits}
+use borrow.Author.Needs.{needs}
 use Rattle.encoder_bit_budget.proofs.allocation_bits.Statement.{statement}
 use Rattle.encoder_bit_budget.proofs.allocation_bits.Tie as tie
 
 abbrev Inv-loop : tie.InvT-loop
-Inv-loop table bound channels sblimit bits₀ sb₀ bits sb =
-    (sb ≤ sblimit) × ((bits ≡ sumOver (λ x. nbalOf table (x .subband)) (fieldsBelow bound channels sb)) × (bits ≤ 8 * sb))
+Inv-loop layout table fields bits₀ f₀ bits f =
+    (f ≤ fields) × ((bits ≡ sumOver (λ x. nbalOf table (x .subband)) (take f (fieldsOf layout))) × (bits ≤ 4 * f))
 
 abbrev μ-loop : tie.MeasureT-loop
-μ-loop table bound channels sblimit bits₀ sb₀ bits sb = sblimit - sb
+μ-loop layout table fields bits₀ f₀ bits f = fields - f
 
-sblimit-requires : tie.Need-sblimit-requires Inv-loop μ-loop
-sblimit-requires c κs = search needs
+fields-requires : tie.Need-fields-requires Inv-loop μ-loop
+fields-requires c κs = search needs
 
 loop-holds : tie.Need-loop-holds Inv-loop μ-loop
-unfolding fieldsBelow
 loop-holds c = search needs
 
-fields-in-requires : tie.Need-fields-in-requires Inv-loop μ-loop
-fields-in-requires c κs = search needs
+field-requires : tie.Need-field-requires Inv-loop μ-loop
+field-requires c κs = search needs
 
 nbal-requires : tie.Need-nbal-requires Inv-loop μ-loop
 nbal-requires c κs = search needs
 
-few : (c : tie.After-nbal Inv-loop μ-loop) → c .before .fields-in .result * c .nbal .result ≤ 8
-few c = mul-le-mul (c .before .fields-in .ensures .1) (c .nbal .ensures .small)
-
-mul-bits : tie.Need-mul-bits Inv-loop μ-loop
-mul-bits c = omega (arith, few c)
-
 add-bits : tie.Need-add-bits Inv-loop μ-loop
-add-bits c = omega (arith, few c)
+add-bits c = search needs
 
-add-sb : tie.Need-add-sb Inv-loop μ-loop
-add-sb c = search needs
+add-f : tie.Need-add-f Inv-loop μ-loop
+add-f c = search needs
 
 loop-less : tie.Need-loop-less Inv-loop μ-loop
 loop-less c = search needs
 
 loop-again : tie.Need-loop-again Inv-loop μ-loop
 loop-again c =
+    let start = c .before .before .before .before .before in
     let l = c .before .before .before .loop in
-    let a = c .before .before .before .before .before .args in
+    let many = c .before .before .before .before .fields .ensures in
+    let here : l .f < length (fieldsOf (start .args .layout)) = rw (many .whole) at (c .before .before .loop-test .taken) in
     (
       search needs,
       (
-        added (λ x. nbalOf (a .table) (x .subband)) (a .bound) (a .channels) (l .sb) (l .bits) (l .inv .1 .0) _
-        (ap₂ _*_ (c .before .fields-in .ensures .0) (c .nbal .ensures .whole) ∙ sym (counted (nbalOf (a .table)) (a .bound) (a .channels) (l .sb))),
-        omega (arith, few c)
+        added (λ x. nbalOf (start .args .layout .table) (x .subband)) (fieldsOf (start .args .layout)) (l .f) (l .bits) (l .inv .1 .0) _ _ here (c .before .field .ensures .whole) (c .nbal .ensures .whole),
+        search needs
       )
     )
 
 returns : tie.Need-returns Inv-loop μ-loop
+unfolding allocationBits
 returns c =
+    let start = c .before .before .before in
     let l = c .before .loop in
-    let a = c .before .before .before .args in
-    summed (λ x. nbalOf (a .table) (x .subband)) (a .bound) (a .channels) (l .sb) (l .bits) (l .inv .1 .0) _ (search needs) (search needs)
+    let many = c .before .before .fields .ensures in
+    (summed (λ x. nbalOf (start .args .layout .table) (x .subband)) (fieldsOf (start .args .layout)) (l .f) (l .bits) (l .inv .1 .0) (rw (many .whole) at (c .loop-test .left)))
 
 pub allocation-bits-spec : {M : Type 1} → statement M
 allocation-bits-spec =
@@ -70,13 +67,12 @@ allocation-bits-spec =
     (tie.spec
     Inv-loop
     μ-loop
-    sblimit-requires
+    fields-requires
     loop-holds
-    fields-in-requires
+    field-requires
     nbal-requires
-    mul-bits
     add-bits
-    add-sb
+    add-f
     loop-less
     loop-again
     returns)

@@ -7,7 +7,7 @@ use Rattle.encoder_bit_budget.proofs.needed_bits.Tie as tie
 
 returns : tie.Need-returns
 unfolding ofBits
-returns c = (nothing _ _ _ (c .if1 .taken), search needs)
+returns c = record { whole = nothing _ _ _ (c .if1 .taken); most = search needs }
 
 needed-steps-requires : tie.Need-needed-steps-requires
 needed-steps-requires c κs = search needs
@@ -24,10 +24,10 @@ cast-result c = search needs
 returns-2 : tie.Need-returns-2
 unfolding ofBits
 returns-2 c =
-    (
-      something _ _ _ _ _ (c .before .before .if1 .left) (c .before .needed-steps .ensures) (c .sample-bits-for .ensures .whole),
-      search needs
-    )
+    record {
+      whole = something _ _ _ _ _ (c .before .before .if1 .left) (c .before .needed-steps .ensures) (c .sample-bits-for .ensures .whole);
+      most = search needs
+    }
 
 pub needed-bits-spec : {M : Type 1} → statement M
 needed-bits-spec =

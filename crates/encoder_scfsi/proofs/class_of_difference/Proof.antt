@@ -1,7 +1,7 @@
 -- `encoder_scfsi::class_of_difference` meets its contract: the difference of two bytes fits 16 bits and is read back from them.
 use borrow.Author.Needs.{needs}
 use mathlib.Core.Path.{ap, _∙_}
-use Rattle.encoder_scfsi.specs.Class.{classOf}
+use Rattle.encoder_scfsi.specs.Class.{differenceClass}
 use Rattle.encoder_scfsi.proofs.ClassLaws.{bytes-fit, bytes-read}
 use Rattle.encoder_scfsi.proofs.class_of_difference.Statement.{statement}
 use Rattle.encoder_scfsi.proofs.class_of_difference.Tie as tie
@@ -21,7 +21,7 @@ classify-difference-requires c κs = search needs
 returns : tie.Need-returns
 returns c =
     let s = c .before in
-    c .classify-difference .ensures ∙ ap classOf (bytes-read (s .args .scf) (s .args .next) (s .fits .scf .fits) (s .fits .next .fits))
+    c .classify-difference .ensures ∙ ap differenceClass (bytes-read (s .args .scf) (s .args .next) (s .fits .scf .fits) (s .fits .next .fits))
 
 pub class-of-difference-spec : {M : Type 1} → statement M
 class-of-difference-spec =

@@ -12,10 +12,10 @@ use Rattle.plan_ratios.proofs.read_ratios.Statement.{statement}
 use Rattle.plan_ratios.proofs.read_ratios.Tie as tie
 
 abbrev Inv-loop : tie.InvT-loop
-Inv-loop text channels slots ratios₀ count₀ at₀ feeds₀ ratios count at feeds = Walked text channels slots ratios count at feeds
+Inv-loop text given slots ratios₀ count₀ at₀ feeds₀ ratios count at feeds = Walked text given slots ratios count at feeds
 
 abbrev μ-loop : tie.MeasureT-loop
-μ-loop text channels slots ratios₀ count₀ at₀ feeds₀ ratios count at feeds = length text - at
+μ-loop text given slots ratios₀ count₀ at₀ feeds₀ ratios count at feeds = length text - at
 
 -- the places that the needs look back to: the start, the loop's head, the token's end, the ratio read
 abbrev at-start : tie.At-loop Inv-loop μ-loop → tie.Start Inv-loop μ-loop
@@ -30,8 +30,8 @@ at-token ratio = ratio .before .before
 abbrev at-ratio : tie.After-known-told Inv-loop μ-loop → tie.After-read-ratio Inv-loop μ-loop
 at-ratio told = told .before .before .before
 
-few : (c : tie.At-loop Inv-loop μ-loop) → c .before .before .before .slots-of .result ≤ 64
-few c = c .before .before .before .slots-of .ensures .most
+few : (c : tie.At-loop Inv-loop μ-loop) → c .before .before .before .wanted .result ≤ 64
+few c = c .before .before .before .wanted .ensures .most
 
 -- a token goes forward and ends within the text
 ahead : (c : tie.After-token-end Inv-loop μ-loop) → let head = at-head c in
@@ -43,8 +43,8 @@ ahead c =
     let ends = c .token-end .ensures in
     (forward _ _ _ (few head) _ _ _ _ inv _ tested ends, within _ _ _ (few head) _ _ _ _ inv _ tested ends)
 
-slots-of-requires : tie.Need-slots-of-requires Inv-loop μ-loop
-slots-of-requires c κs = search needs
+wanted-requires : tie.Need-wanted-requires Inv-loop μ-loop
+wanted-requires c κs = search needs
 
 no-ratios-requires : tie.Need-no-ratios-requires Inv-loop μ-loop
 no-ratios-requires c κs = search needs
@@ -53,7 +53,7 @@ skip-gap-requires : tie.Need-skip-gap-requires Inv-loop μ-loop
 skip-gap-requires c κs = search needs
 
 loop-holds : tie.Need-loop-holds Inv-loop μ-loop
-loop-holds c = at-first _ _ _ _ _ (c .before .before .slots-of .ensures .whole) (c .before .no-ratios .ensures) (c .skip-gap .ensures)
+loop-holds c = at-first _ _ _ _ _ (c .before .before .wanted .ensures .whole) (c .before .no-ratios .ensures) (c .skip-gap .ensures)
 
 add-refused : tie.Need-add-refused Inv-loop μ-loop
 add-refused c = search needs
@@ -153,7 +153,7 @@ read-ratios-spec =
     (tie.spec
     Inv-loop
     μ-loop
-    slots-of-requires
+    wanted-requires
     no-ratios-requires
     skip-gap-requires
     loop-holds

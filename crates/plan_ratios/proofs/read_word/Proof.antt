@@ -2,7 +2,6 @@
 use mathlib.Core.Path.{sym, _∙_}
 use borrow.Author.Needs.{needs}
 use lib.Ieee.{div, neg, ofBits}
-use Rattle.plan_text.specs.Quoted.{bytes, codes}
 use Rattle.plan_ratios.specs.Ratio.{wordValue}
 use Rattle.plan_ratios.proofs.read_word.Statement.{statement}
 use Rattle.plan_ratios.proofs.read_word.Tie as tie
@@ -14,7 +13,7 @@ same-requires : tie.Need-same-requires
 same-requires c κs = search needs
 
 returns : tie.Need-returns
-unfolding wordValue bytes codes div ofBits
+unfolding wordValue div ofBits
 returns c = rw (sym (c .before .same .ensures) ∙ c .if1 .taken)
 
 slice-aggregate-same-2 : tie.Need-slice-aggregate-same-2
@@ -24,7 +23,7 @@ same-requires-2 : tie.Need-same-requires-2
 same-requires-2 c κs = search needs
 
 returns-2 : tie.Need-returns-2
-unfolding wordValue bytes codes div neg ofBits
+unfolding wordValue div neg ofBits
 returns-2 c =
     let e = c .before .before .before in
     rw (sym (e .before .same .ensures) ∙ e .if1 .left, sym (c .before .same2 .ensures) ∙ c .if2 .taken)
@@ -36,7 +35,7 @@ same-requires-3 : tie.Need-same-requires-3
 same-requires-3 c κs = search needs
 
 returns-3 : tie.Need-returns-3
-unfolding wordValue bytes codes div ofBits
+unfolding wordValue div ofBits
 returns-3 c =
     let f = c .before .before .before in
     let e = f .before .before .before in
@@ -47,7 +46,7 @@ returns-3 c =
     )
 
 returns-4 : tie.Need-returns-4
-unfolding wordValue bytes codes
+unfolding wordValue
 returns-4 c =
     let f = c .before .before .before in
     let e = f .before .before .before in

@@ -1,6 +1,5 @@
 -- `plan_words::flag_word` meets its contract.
 use mathlib.Core.Path.{sym, _∙_}
-use Rattle.plan_text.specs.Quoted.{bytes, codes}
 use Rattle.plan_words.specs.Word.{flagWords, lookup}
 use borrow.Author.Needs.{needs}
 use Rattle.plan_words.proofs.flag_word.Statement.{statement}
@@ -13,7 +12,7 @@ same-requires : tie.Need-same-requires
 same-requires c κs = search needs
 
 returns : tie.Need-returns
-unfolding lookup flagWords bytes codes
+unfolding lookup flagWords
 returns c =
     rw
     (sym (c .before .same .ensures) ∙ c .if1 .taken)
@@ -25,7 +24,7 @@ same-requires-2 : tie.Need-same-requires-2
 same-requires-2 c κs = search needs
 
 returns-2 : tie.Need-returns-2
-unfolding lookup flagWords bytes codes
+unfolding lookup flagWords
 returns-2 c =
     let e1 = c .before .before .before in
     rw (
@@ -40,7 +39,7 @@ same-requires-3 : tie.Need-same-requires-3
 same-requires-3 c κs = search needs
 
 returns-3 : tie.Need-returns-3
-unfolding lookup flagWords bytes codes
+unfolding lookup flagWords
 returns-3 c =
     let e2 = c .before .before .before in
     let e1 = e2 .before .before .before in
@@ -57,7 +56,7 @@ same-requires-4 : tie.Need-same-requires-4
 same-requires-4 c κs = search needs
 
 returns-4 : tie.Need-returns-4
-unfolding lookup flagWords bytes codes
+unfolding lookup flagWords
 returns-4 c =
     let e3 = c .before .before .before in
     let e2 = e3 .before .before .before in
@@ -76,7 +75,7 @@ same-requires-5 : tie.Need-same-requires-5
 same-requires-5 c κs = search needs
 
 returns-5 : tie.Need-returns-5
-unfolding lookup flagWords bytes codes
+unfolding lookup flagWords
 returns-5 c =
     let e4 = c .before .before .before in
     let e3 = e4 .before .before .before in
@@ -97,7 +96,7 @@ same-requires-6 : tie.Need-same-requires-6
 same-requires-6 c κs = search needs
 
 returns-6 : tie.Need-returns-6
-unfolding lookup flagWords bytes codes
+unfolding lookup flagWords
 returns-6 c =
     let e5 = c .before .before .before in
     let e4 = e5 .before .before .before in
@@ -117,7 +116,7 @@ number-word-requires : tie.Need-number-word-requires
 number-word-requires c κs = search needs
 
 returns-7 : tie.Need-returns-7
-unfolding lookup flagWords bytes codes
+unfolding lookup flagWords
 returns-7 c =
     let d = c .before in
     let e5 = d .before .before .before in

@@ -21,9 +21,6 @@ enum-told c = search needs
 returns-2 : tie.Need-returns-2
 returns-2 c = sym (unread _ (c .before .before .before .if1 .left) (sym (c .before .before .read-digits .ensures) ∙ ap optionOf (c .enum-told .given .1)))
 
-cast-t7 : tie.Need-cast-t7
-cast-t7 c = search needs
-
 returns-3 : tie.Need-returns-3
 returns-3 c =
     let r = c .before .before .before .before in
@@ -43,6 +40,5 @@ read-number-spec =
     enum-known-read
     enum-told
     returns-2
-    cast-t7
     returns-3
     returns-4)

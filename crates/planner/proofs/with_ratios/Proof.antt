@@ -1,17 +1,13 @@
 -- `planner::with_ratios` meets its contract.
-use mathlib.Core.Path.{refl, ap, _∙_}
+use mathlib.Core.Path.{refl}
 use Rattle.plan_ratios.specs.declared.RatiosAnswer.the-variants as Ratio
-use Rattle.plan_ratios.specs.Ratios.{slotsOf}
 use Rattle.planner.proofs.PlanLaws.{moved, good-ratios, bad-ratios}
 use borrow.Author.Needs.{needs}
 use Rattle.planner.proofs.with_ratios.Statement.{statement}
 use Rattle.planner.proofs.with_ratios.Tie as tie
 
-channels-requires : tie.Need-channels-requires
-channels-requires c κs = search needs
-
-slots-of-requires : tie.Need-slots-of-requires
-slots-of-requires c κs = search needs
+slots-for-requires : tie.Need-slots-for-requires
+slots-for-requires c κs = search needs
 
 enum-told : tie.Need-enum-told
 enum-told c = search needs
@@ -58,24 +54,23 @@ returns c = moved (good-ratios _ _ _ (c .before .before .before .before .enum-to
 returns-2 : tie.Need-returns-2
 returns-2 c =
     let m = c .before .before in
-    moved (bad-ratios _ _ _ Ratio.CannotRead _ _ (m .enum-told2 .given .1) refl (m .before .before .slots-of .ensures ∙ ap slotsOf (m .before .before .before .channels .ensures .whole)) (c .before .cannot-read .ensures)) (c .only .ensures)
+    moved (bad-ratios _ _ _ Ratio.CannotRead _ _ (m .enum-told2 .given .1) refl (m .before .before .slots-for .ensures) (c .before .cannot-read .ensures)) (c .only .ensures)
 
 returns-3 : tie.Need-returns-3
 returns-3 c =
     let m = c .before .before in
-    moved (bad-ratios _ _ _ Ratio.TooMany _ _ (m .enum-told3 .given .1) refl (m .before .before .slots-of .ensures ∙ ap slotsOf (m .before .before .before .channels .ensures .whole)) (c .before .too-many .ensures)) (c .only2 .ensures)
+    moved (bad-ratios _ _ _ Ratio.TooMany _ _ (m .enum-told3 .given .1) refl (m .before .before .slots-for .ensures) (c .before .too-many .ensures)) (c .only2 .ensures)
 
 returns-4 : tie.Need-returns-4
 returns-4 c =
     let m = c .before .before in
-    moved (bad-ratios _ _ _ Ratio.TooFew _ _ (m .enum-told4 .given .1) refl (m .before .before .slots-of .ensures ∙ ap slotsOf (m .before .before .before .channels .ensures .whole)) (c .before .too-few .ensures)) (c .only3 .ensures)
+    moved (bad-ratios _ _ _ Ratio.TooFew _ _ (m .enum-told4 .given .1) refl (m .before .before .slots-for .ensures) (c .before .too-few .ensures)) (c .only3 .ensures)
 
 pub with-ratios-spec : {M : Type 1} → statement M
 with-ratios-spec =
     tie.close
     (tie.spec
-    channels-requires
-    slots-of-requires
+    slots-for-requires
     enum-told
     slice-aggregate-rows
     rows-requires

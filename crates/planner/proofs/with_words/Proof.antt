@@ -9,8 +9,8 @@ use Rattle.planner.proofs.with_words.Tie as tie
 enum-told : tie.Need-enum-told
 enum-told c = search needs
 
-channels-requires : tie.Need-channels-requires
-channels-requires c κs = search needs
+slots-for-requires : tie.Need-slots-for-requires
+slots-for-requires c κs = search needs
 
 read-ratios-requires : tie.Need-read-ratios-requires
 read-ratios-requires c κs = search needs
@@ -57,7 +57,7 @@ only-requires-4 c κs = search needs
 returns : tie.Need-returns
 returns c =
     let r = c .before in
-    moved (good-words _ _ _ (r .before .before .before .enum-told .given .1) _ _ (r .before .channels .ensures .whole) (r .read-ratios .ensures)) (c .with-ratios .ensures)
+    moved (good-words _ _ _ (r .before .before .before .enum-told .given .1) _ _ (r .before .slots-for .ensures) (r .read-ratios .ensures)) (c .with-ratios .ensures)
 
 returns-2 : tie.Need-returns-2
 returns-2 c = moved (bad-words _ _ _ Word.Unknown _ (c .before .before .enum-told2 .given .1) refl (c .before .unknown-word .ensures)) (c .only .ensures)
@@ -76,7 +76,7 @@ with-words-spec =
     tie.close
     (tie.spec
     enum-told
-    channels-requires
+    slots-for-requires
     read-ratios-requires
     with-ratios-requires
     enum-told-2

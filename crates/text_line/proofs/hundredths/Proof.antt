@@ -1,6 +1,6 @@
 -- `text_line::hundredths` meets its contract.
 use lib.Ieee.{ofBits}
-use Rattle.text_line.specs.Ratio.{hundredthsOf}
+use Rattle.text_line.specs.Decibels.{hundredthsOf}
 use borrow.Author.Needs.{needs}
 use Rattle.text_line.proofs.hundredths.Statement.{statement}
 use Rattle.text_line.proofs.hundredths.Tie as tie

@@ -29,8 +29,8 @@ cast-t7 c =
     let bounded = told .before .before .pre _ (told .budget .given .1) in
     omega (arith, bounded .channels)
 
-number-of-requires : tie.Need-number-of-requires
-number-of-requires c κs = search needs
+number-requires : tie.Need-number-requires
+number-requires c κs = search needs
 
 enum-told : tie.Need-enum-told
 enum-told c = search needs
@@ -44,7 +44,7 @@ enum-told-3 c = search needs
 returns : tie.Need-returns
 returns c =
     let told = at-budget (c .before .before .before) in
-    rw (told .budget .given .1, c .number-of .ensures)
+    rw (told .budget .given .1, c .number .ensures)
 
 returns-2 : tie.Need-returns-2
 returns-2 c = rw (c .enum-told .given .1)
@@ -63,7 +63,7 @@ budget-values-spec =
     cast-t5
     cast-t6
     cast-t7
-    number-of-requires
+    number-requires
     enum-told
     enum-told-2
     enum-told-3

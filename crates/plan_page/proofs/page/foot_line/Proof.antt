@@ -1,6 +1,6 @@
 -- `plan_page::page::foot_line` meets its contract.
 use mathlib.Core.Path.{ap, _∙_}
-use Rattle.text_line.specs.Line.{text}
+use Rattle.plan_text.specs.Quoted.{text}
 use Rattle.plan_lines.specs.Lines.{bitsLine}
 use Rattle.plan_page.proofs.PageLaws.{no-foot}
 use borrow.Author.Needs.{needs}

@@ -1,7 +1,9 @@
 -- `plan_page::page::head_line` meets its contract.
 use mathlib.Core.Path.{ap, _∙_}
-use Rattle.text_line.specs.Line.{text}
+use Rattle.plan_text.specs.Quoted.{text}
 use Rattle.plan_lines.specs.Lines.{bitsLine}
+use Rattle.layout.specs.Layout.{channelCount}
+use Rattle.plan_page.specs.Rows.{headingLine}
 use Rattle.plan_page.proofs.PageLaws.{no-head}
 use borrow.Author.Needs.{needs}
 use Rattle.plan_page.proofs.page.head_line.Statement.{statement}
@@ -22,6 +24,12 @@ offered-line-requires c κs = search needs
 demand-line-requires : tie.Need-demand-line-requires
 demand-line-requires c κs = search needs
 
+layout-requires : tie.Need-layout-requires
+layout-requires c κs = search needs
+
+channel-count-requires : tie.Need-channel-count-requires
+channel-count-requires c κs = search needs
+
 heading-requires : tie.Need-heading-requires
 heading-requires c κs = search needs
 
@@ -41,7 +49,11 @@ returns-4 : tie.Need-returns-4
 returns-4 c = rw (c .before .if4 .taken) (c .demand-line .ensures)
 
 returns-5 : tie.Need-returns-5
-returns-5 c = rw (c .before .if5 .taken) (c .heading .ensures)
+returns-5 c =
+    let count = c .before in
+    let layout = count .before in
+    rw (layout .before .if5 .taken)
+    (c .heading .ensures ∙ ap headingLine (count .channel-count .ensures .whole ∙ ap channelCount (layout .layout .ensures)))
 
 returns-6 : tie.Need-returns-6
 returns-6 c =
@@ -57,6 +69,8 @@ head-line-spec =
     fixed-line-requires
     offered-line-requires
     demand-line-requires
+    layout-requires
+    channel-count-requires
     heading-requires
     new-requires
     returns

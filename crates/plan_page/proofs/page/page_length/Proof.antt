@@ -20,7 +20,7 @@ returns c =
     let a = c .before .before .before .before in
     let s = a .before in
     let f = c .before .budget-held .ensures in
-    sym (ap length (page-accepted (s .args .header) (s .args .banc) (s .args .smr-db) (a .allocate-bits .result) (a .allocate-bits .ensures .whole) _ _ (f .whole) refl (c .before .before .if1 .taken)) ∙ accepted-length _ _ _ _ _ _)
+    sym (ap length (page-accepted (s .args .header) (s .args .banc) (s .args .smr-db) (a .allocate-bits .result) (a .allocate-bits .ensures .whole) _ _ _ (f .whole) refl refl (c .before .before .if1 .taken)) ∙ accepted-length _ _ _ _ _ _)
 
 returns-2 : tie.Need-returns-2
 returns-2 c =

@@ -41,8 +41,8 @@ returns c =
     let d = c .before .before .before .before .before .before in
     let a = d .before .before .before .before in
     let f = d .before .budget-held .ensures in
-    line-accepted _ _ _ (a .allocate-bits .result) (a .allocate-bits .ensures .whole) _ _ _ _ _ (f .whole) (c .before .before .bits .ensures ∙ ap (λ (x : Demanded). x .bits) (d .demand-bits .ensures .whole))
-    (c .before .before .before .offered-bits .ensures) (d .before .before .if1 .taken) (c .accepted-line .ensures)
+    line-accepted _ _ _ (a .allocate-bits .result) (a .allocate-bits .ensures .whole) _ _ _ _ _ (f .whole) (c .before .before .before .offered-bits .ensures)
+    (c .before .before .bits .ensures ∙ ap (λ (x : Demanded). x .bits) (d .demand-bits .ensures .whole)) (d .before .before .if1 .taken) (c .accepted-line .ensures)
 
 returns-2 : tie.Need-returns-2
 returns-2 c =

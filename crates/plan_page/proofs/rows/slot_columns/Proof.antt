@@ -2,26 +2,27 @@
 use mathlib.Core.Path.{ap, _∙_}
 use mathlib.Core.List.{_++_}
 use lib.Ieee.{Float}
-use Rattle.text_line.specs.Line.{text, textOf, cut, aligned}
+use Rattle.plan_text.specs.Quoted.{text}
+use Rattle.text_line.specs.Line.{textOf, cut, aligned}
 use Rattle.text_line.specs.Number.{numberText}
-use Rattle.text_line.specs.Ratio.{ratioText}
+use Rattle.text_line.specs.Decibels.{decibelsText}
 use Rattle.text_line.proofs.LineLaws.{more}
 use Rattle.plan_page.specs.Rows.{slotColumns}
 use borrow.Author.Needs.{needs}
 use Rattle.plan_page.proofs.rows.slot_columns.Statement.{statement}
 use Rattle.plan_page.proofs.rows.slot_columns.Tie as tie
 
-slot-ratio-requires : tie.Need-slot-ratio-requires
-slot-ratio-requires c κs = search needs
+slot-mnr-requires : tie.Need-slot-mnr-requires
+slot-mnr-requires c κs = search needs
 
-ratio-in-requires : tie.Need-ratio-in-requires
-ratio-in-requires c κs = search needs
+decibels-in-requires : tie.Need-decibels-in-requires
+decibels-in-requires c κs = search needs
 
 number-in-requires : tie.Need-number-in-requires
 number-in-requires c κs = search needs
 
-ratio-in-requires-2 : tie.Need-ratio-in-requires-2
-ratio-in-requires-2 c κs = search needs
+decibels-in-requires-2 : tie.Need-decibels-in-requires-2
+decibels-in-requires-2 c κs = search needs
 
 slice-aggregate-text : tie.Need-slice-aggregate-text
 slice-aggregate-text c = search needs
@@ -37,17 +38,17 @@ returns c =
     let smr = s .args .smr in
     let steps = s .args .nb-steps in
     let t = textOf (s .args .line) in
-    more t _ _ (more t _ _ (more t _ _ (third .before .before .ratio-in .ensures) (third .before .number-in .ensures)) (third .ratio-in2 .ensures)) (c .text .ensures)
-    ∙ ap (λ (y : Float). cut (t ++ (aligned 10 (ratioText smr) ++ aligned 7 (numberText steps) ++ aligned 10 (ratioText y) ++ text " |"))) (third .before .before .before .slot-ratio .ensures)
+    more t _ _ (more t _ _ (more t _ _ (third .before .before .decibels-in .ensures) (third .before .number-in .ensures)) (third .decibels-in2 .ensures)) (c .text .ensures)
+    ∙ ap (λ (y : Float). cut (t ++ (aligned 10 (decibelsText smr) ++ aligned 7 (numberText steps) ++ aligned 10 (decibelsText y) ++ text " |"))) (third .before .before .before .slot-mnr .ensures)
 
 pub slot-columns-spec : {M : Type 1} → statement M
 slot-columns-spec =
     tie.close
     (tie.spec
-    slot-ratio-requires
-    ratio-in-requires
+    slot-mnr-requires
+    decibels-in-requires
     number-in-requires
-    ratio-in-requires-2
+    decibels-in-requires-2
     slice-aggregate-text
     text-requires
     returns)

@@ -1,68 +1,87 @@
--- `plan_page::rows::subband_bits` meets its contract.
-use mathlib.Core.Path.{ap₂, _∙_}
-use Prim.Native.Nat.{ℕ, _+_}
-use Rattle.plan_page.proofs.RowLaws.{bits-one, bits-apart, bits-shared}
+-- `plan_page::rows::subband_bits` meets its contract. The loop's invariant: the sum over the fields so far.
+use Prim.Native.Nat.{ℕ, _*_, _-_, _≤_, _<_}
+use mathlib.Core.Path.{_≡_}
+use native.Mathlib.Omega.{arith}
+use lib.ListN.{length, take}
+use Rattle.bitalloc.proofs.RowLaws.{sblimit-small}
+use Rattle.layout.specs.Layout.{fieldsOf, sumOver}
+use Rattle.layout.proofs.SumLaws.{added, summed}
+use Rattle.plan_page.specs.Rows.{bitsIn, subbandBits}
 use borrow.Author.Needs.{needs}
 use Rattle.plan_page.proofs.rows.subband_bits.Statement.{statement}
 use Rattle.plan_page.proofs.rows.subband_bits.Tie as tie
 
-mul-first : tie.Need-mul-first
-mul-first c = search needs
+abbrev Inv-loop : tie.InvT-loop
+Inv-loop layout steps sb fields bits₀ f₀ bits f =
+    (f ≤ fields) × ((bits ≡ sumOver (bitsIn steps sb) (take f (fieldsOf layout))) × (bits ≤ 616 * f))
 
-array-read-first : tie.Need-array-read-first
-array-read-first c = search needs
+abbrev μ-loop : tie.MeasureT-loop
+μ-loop layout steps sb fields bits₀ f₀ bits f = fields - f
 
-field-bits-requires : tie.Need-field-bits-requires
-field-bits-requires c κs = search needs
+fields-requires : tie.Need-fields-requires Inv-loop μ-loop
+fields-requires c κs = search needs
 
-field-bits-requires-2 : tie.Need-field-bits-requires-2
-field-bits-requires-2 c κs = search needs
+loop-holds : tie.Need-loop-holds Inv-loop μ-loop
+loop-holds c = search needs
 
-add-field-bits : tie.Need-add-field-bits
-add-field-bits c = search needs
+field-requires : tie.Need-field-requires Inv-loop μ-loop
+field-requires c κs = search needs
 
-mul-field-bits : tie.Need-mul-field-bits
-mul-field-bits c = search needs
+bits-in-requires : tie.Need-bits-in-requires Inv-loop μ-loop
+bits-in-requires c κs =
+    let field = c .field .ensures in
+    let low = field .carried in
+    let layout = c .before .before .before .before .args .layout in
+    (omega (arith, sblimit-small (layout .table)), field .channel)
 
-array-read-field-bits : tie.Need-array-read-field-bits
-array-read-field-bits c = search needs
+add-bits : tie.Need-add-bits Inv-loop μ-loop
+add-bits c = search needs
 
-field-bits-requires-3 : tie.Need-field-bits-requires-3
-field-bits-requires-3 c κs = search needs
+add-f : tie.Need-add-f Inv-loop μ-loop
+add-f c = search needs
 
-add-result : tie.Need-add-result
-add-result c = search needs
+loop-less : tie.Need-loop-less Inv-loop μ-loop
+loop-less c = search needs
 
-mul-field-bits-2 : tie.Need-mul-field-bits-2
-mul-field-bits-2 c = search needs
+loop-again : tie.Need-loop-again Inv-loop μ-loop
+loop-again c =
+    let at = c .before .before .before in
+    let l = at .loop in
+    let fields = at .before in
+    let given = fields .before .args in
+    let here : l .f < length (fieldsOf (given .layout)) = rw (fields .fields .ensures .whole) at (c .before .before .loop-test .taken) in
+    (
+      search needs,
+      (
+        added (bitsIn (given .steps .now) (given .sb)) (fieldsOf (given .layout)) (l .f) (l .bits) (l .inv .1 .0) _ _ here (c .before .field .ensures .whole) (c .bits-in .ensures .whole),
+        search needs
+      )
+    )
 
-field-bits-requires-4 : tie.Need-field-bits-requires-4
-field-bits-requires-4 c κs = search needs
-
-returns : tie.Need-returns
-returns c = c .field-bits .ensures .0 ∙ bits-one _ _ _ _ (c .before .if1 .taken)
-
-returns-2 : tie.Need-returns-2
-returns-2 c = ap₂ (λ (m n : ℕ). m + n) (c .before .field-bits2 .ensures .0) (c .field-bits3 .ensures .0) ∙ bits-apart _ _ _ _ (c .before .before .before .if1 .left) (c .before .before .if2 .taken)
-
-returns-3 : tie.Need-returns-3
-returns-3 c = c .field-bits4 .ensures .0 ∙ bits-shared _ _ _ _ (c .before .before .if1 .left) (c .before .if2 .left)
+returns : tie.Need-returns Inv-loop μ-loop
+unfolding subbandBits
+returns c =
+    let l = c .before .loop in
+    let fields = c .before .before in
+    let given = fields .before .args in
+    record {
+      whole = summed (bitsIn (given .steps .now) (given .sb)) (fieldsOf (given .layout)) (l .f) (l .bits) (l .inv .1 .0)
+        (rw (fields .fields .ensures .whole) at (c .loop-test .left));
+      most = omega (arith, fields .fields .ensures .few)
+    }
 
 pub subband-bits-spec : {M : Type 1} → statement M
 subband-bits-spec =
     tie.close
     (tie.spec
-    mul-first
-    array-read-first
-    field-bits-requires
-    field-bits-requires-2
-    add-field-bits
-    mul-field-bits
-    array-read-field-bits
-    field-bits-requires-3
-    add-result
-    mul-field-bits-2
-    field-bits-requires-4
-    returns
-    returns-2
-    returns-3)
+    Inv-loop
+    μ-loop
+    fields-requires
+    loop-holds
+    field-requires
+    bits-in-requires
+    add-bits
+    add-f
+    loop-less
+    loop-again
+    returns)

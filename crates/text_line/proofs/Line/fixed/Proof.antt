@@ -2,9 +2,10 @@
 use Rattle.text_line.proofs.LineLaws.{more}
 use mathlib.Core.List.{_++_}
 use Prim.Native.Nat.{_/_, _%_}
-use Rattle.text_line.specs.Line.{text, textOf}
+use Rattle.plan_text.specs.Quoted.{text}
+use Rattle.text_line.specs.Line.{textOf}
 use Rattle.text_line.specs.Number.{numberText}
-use Rattle.text_line.specs.Ratio.{twoDigits}
+use Rattle.text_line.specs.Decibels.{twoDigits}
 use borrow.Author.Needs.{needs}
 use Rattle.text_line.proofs.Line.fixed.Statement.{statement}
 use Rattle.text_line.proofs.Line.fixed.Tie as tie

@@ -1,0 +1,2 @@
+pub mod QuestionLaws
+pub mod CodeLaws

@@ -1,0 +1,60 @@
+-- Laws of the questions: what is asked behind others decides where those are all answered yes, and nowhere else.
+use mathlib.Core.Path.{_≡_, refl, sym, ap, _∙_}
+use mathlib.Core.Bool.{Bool, true, false, not, _&&_, true≢false}
+use mathlib.Core.List.{List, [], _∷_, _++_}
+use Prim.Native.Nat.{ℕ}
+use lib.Dec.{T, eqb}
+use borrow.Author.Tests.{eq-eqb}
+use Rattle.header.specs.Questions.{Question, firstNo, number, telling}
+
+module _ {A : Type 0} where
+  -- the next question is answered yes, or no
+  pub said-yes : (a : A) (q : Question A) (qs : List (Question A)) → q .yes ≡ true → firstNo a (q ∷ qs) ≡ firstNo a qs
+  said-yes a q qs e = rw e
+
+  pub said-no : (a : A) (q : Question A) (qs : List (Question A)) → q .yes ≡ false → firstNo a (q ∷ qs) ≡ q .otherwise
+  said-no a q qs e = rw e
+
+  -- a list behind another
+  pub behind : (a : A) (qs rs : List (Question A)) → firstNo a (qs ++ rs) ≡ firstNo (firstNo a rs) qs
+  behind a [] rs = refl
+  behind a (q ∷ qs) rs = ap (λ (x : A). elim (q .yes) [ true ↦ x | false ↦ q .otherwise ]) (behind a qs rs)
+
+-- with another answer each
+pub told : {A B : Type 0} (f : A → B) (a : A) (qs : List (Question A)) → firstNo (f a) (telling f qs) ≡ f (firstNo a qs)
+told f a [] = refl
+told f a (q ∷ qs) = go (told f a qs) (q .yes)
+  where
+    go : firstNo (f a) (telling f qs) ≡ f (firstNo a qs) → (v : Bool)
+      → elim v [ true ↦ firstNo (f a) (telling f qs) | false ↦ f (q .otherwise) ] ≡ f (elim v [ true ↦ firstNo a qs | false ↦ q .otherwise ])
+    go rest true = rest
+    go rest false = refl
+
+-- ---- numbers
+
+-- no question is answered no by the number 0; antt computes it of any list that is written out
+abbrev pub refusing : List (Question ℕ) → Bool
+refusing [] = true
+refusing (q ∷ qs) = not (eqb (q .otherwise) 0) && refusing qs
+
+-- where all are answered yes, what follows decides
+pub all-yes : (n : ℕ) (qs : List (Question ℕ)) → T (refusing qs) → number qs ≡ 0 → firstNo n qs ≡ n
+all-yes n [] t e = refl
+all-yes n (q ∷ qs) t e = go (all-yes n qs) (q .yes) (eqb (q .otherwise) 0) refl t e
+  where
+    go : (T (refusing qs) → number qs ≡ 0 → firstNo n qs ≡ n) → (v zero : Bool) → eqb (q .otherwise) 0 ≡ zero → T (not zero && refusing qs)
+      → _≡_ {A = ℕ} (elim v [ true ↦ number qs | false ↦ q .otherwise ]) 0 → _≡_ {A = ℕ} (elim v [ true ↦ firstNo n qs | false ↦ q .otherwise ]) n
+    go rest v true z t e = absurd t
+    go rest true false z t e = rest t e
+    go rest false false z t e = absurd (true≢false (sym (eq-eqb (q .otherwise) 0 e) ∙ z))
+
+-- where one is answered no, what follows does not
+pub some-no : (n : ℕ) (qs : List (Question ℕ)) → eqb (number qs) 0 ≡ false → firstNo n qs ≡ number qs
+some-no n [] e = absurd (true≢false e)
+some-no n (q ∷ qs) e = go (some-no n qs) (q .yes) e
+  where
+    go : (eqb (number qs) 0 ≡ false → firstNo n qs ≡ number qs) → (v : Bool)
+      → eqb (elim v [ true ↦ number qs | false ↦ q .otherwise ]) 0 ≡ false
+      → _≡_ {A = ℕ} (elim v [ true ↦ firstNo n qs | false ↦ q .otherwise ]) (elim v [ true ↦ number qs | false ↦ q .otherwise ])
+    go rest true e = rest e
+    go rest false e = refl

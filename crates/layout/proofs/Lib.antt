@@ -1,0 +1,6 @@
+pub mod SlotLaws
+pub mod NumberLaws
+pub mod FieldLaws
+pub mod HeaderLaws
+pub mod WireLaws
+pub mod SumLaws
