@@ -16,7 +16,7 @@ use Rattle.allocation_rounds.proofs.Scan.{open-below, picked}
 pub record Agree (R S : Rules) : Type 0 where
   pub fields : R .fields ≡ S .fields
   pub top : (f : ℕ) → f < R .fields → R .top f ≡ S .top f
-  pub ratio : (f p : ℕ) → f < R .fields → p < R .top f → R .ratio f p ≡ S .ratio f p
+  pub mnr : (f p : ℕ) → f < R .fields → p < R .top f → R .mnr f p ≡ S .mnr f p
   pub charge : (f p : ℕ) → f < R .fields → p ≤ R .top f → R .charge f p ≡ S .charge f p
 
 -- the rounds after a candidate is known
@@ -36,7 +36,7 @@ module _ (R S : Rules) (a : Agree R S) where
       go : (w : Bool) → waits R places closed n ≡ w → best R places closed n ≡ best S places closed n
         → best R places closed (suc n) ≡ best S places closed (suc n)
       go true e ih =
-          let r = a .ratio n (placeIn places n) h (open-below R places closed n e .1) in
+          let r = a .mnr n (placeIn places n) h (open-below R places closed n e .1) in
           rw (e, sym (same-waits places closed n h) ∙ e) (ap₂ (λ (c : Candidate) (q : Float). consider c n q) ih r)
       go false e ih = rw (e, sym (same-waits places closed n h) ∙ e) ih
 

@@ -29,27 +29,27 @@ module _ (R : Rules) (places : List ℕ) (closed : List Bool) (n : ℕ) (isWaiti
     pub best-over : isWaiting ≡ false → r ≡ c → r ≡ best R places closed (n + 1)
     best-over w q = rw (add-one n, sym asked ∙ w) (q ∙ e)
 
-    pub best-met : (ratio : Float) → isWaiting ≡ true → ratio ≡ R .ratio n (placeIn places n) → (m : Candidate) → m ≡ consider c n ratio → r ≡ m
+    pub best-met : (mnr : Float) → isWaiting ≡ true → mnr ≡ R .mnr n (placeIn places n) → (m : Candidate) → m ≡ consider c n mnr → r ≡ m
         → r ≡ best R places closed (n + 1)
-    best-met ratio w h m q p =
+    best-met mnr w h m q p =
         rw (add-one n, sym asked ∙ w)
-        (p ∙ q ∙ ap (consider c n) h ∙ ap (λ (c : Candidate). consider c n (R .ratio n (placeIn places n))) e)
+        (p ∙ q ∙ ap (consider c n) h ∙ ap (λ (c : Candidate). consider c n (R .mnr n (placeIn places n))) e)
 
 -- all of them
-module _ (places : List ℕ) (closed : List Bool) (fields : ℕ) (tops : List ℕ) (ratios : List Float) where
-  inside : (f : ℕ) (q : Float) → best (lent fields tops ratios []) places closed (min fields 64) ≡ Field f q
+module _ (places : List ℕ) (closed : List Bool) (fields : ℕ) (tops : List ℕ) (mnrs : List Float) where
+  inside : (f : ℕ) (q : Float) → best (lent fields tops mnrs []) places closed (min fields 64) ≡ Field f q
       → (f < 64) × (placeIn places f < 15)
   inside f q e =
-      let pick = picked (lent fields tops ratios []) places closed (min fields 64) f q e in
+      let pick = picked (lent fields tops mnrs []) places closed (min fields 64) f q e in
       let below = pick .below in
-      let low = open-below (lent fields tops ratios []) places closed f (pick .waiting) .1 in
+      let low = open-below (lent fields tops mnrs []) places closed f (pick .waiting) .1 in
       (omega arith, omega arith)
 
   pub best-is : (n : ℕ) (r : Candidate) → n ≡ min fields 64
-      → ((charges : List ℕ) → r ≡ best (lent fields tops ratios charges) places closed n) → BestIs places closed fields tops ratios r
+      → ((charges : List ℕ) → r ≡ best (lent fields tops mnrs charges) places closed n) → BestIs places closed fields tops mnrs r
   best-is n r e h = record {
-    whole = λ charges. h charges ∙ ap (best (lent fields tops ratios charges) places closed) e;
-    inside = λ f q p. inside f q (ap (best (lent fields tops ratios []) places closed) (sym e) ∙ sym (h []) ∙ p);
+    whole = λ charges. h charges ∙ ap (best (lent fields tops mnrs charges) places closed) e;
+    inside = λ f q p. inside f q (ap (best (lent fields tops mnrs []) places closed) (sym e) ∙ sym (h []) ∙ p);
   }
 
 -- ---- a run goes on
@@ -85,10 +85,10 @@ module _ (R : Rules) (tops : (f : ℕ) → R .top f ≤ 15) (s : Run) (fit : R .
   onward-ended r = onward (ended R s) r (ended-keeps R Bounded (λ t f r k b l. raised t f r k b) (λ t f r k b l. b) s bounded)
 
 -- by the rules that are lent, from a state of 64 places whose candidate was found
-module _ (fields : ℕ) (tops : List ℕ) (ratios : List Float) (charges : List ℕ) (s : Run) (long : length (s .places) ≡ 64)
-    (c : Candidate) (found : BestIs (s .places) (s .closed) fields tops ratios c) where
+module _ (fields : ℕ) (tops : List ℕ) (mnrs : List Float) (charges : List ℕ) (s : Run) (long : length (s .places) ≡ 64)
+    (c : Candidate) (found : BestIs (s .places) (s .closed) fields tops mnrs c) where
   abbrev rules : Rules
-  rules = lent fields tops ratios charges
+  rules = lent fields tops mnrs charges
 
   capped : (f : ℕ) → min (getD tops f 0) 15 ≤ 15
   capped f = omega arith

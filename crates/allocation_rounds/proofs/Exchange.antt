@@ -20,7 +20,7 @@ use Rattle.allocation_rounds.proofs.OnTheWay.{OnTheWay, zeros, way-star
 -- would not buy g's next.
 abbrev pub Rule : Rules → ℕ → ℕ → ℕ → ℕ → Bool → ℕ → Type 0
 Rule R f g p q isClosed left =
-    f < R .fields → g < R .fields → 0 < p → q < R .top g → T (lt (R .ratio g q) (R .ratio f (p - 1)))
+    f < R .fields → g < R .fields → 0 < p → q < R .top g → T (lt (R .mnr g q) (R .mnr f (p - 1)))
     → (isClosed ≡ true) × (price R f (p - 1) + left < price R g q)
 
 -- a state on the way that keeps the rule
@@ -44,10 +44,10 @@ module _ (O : Order) (R : Rules) (C : Counting R) (U : Rising R) (offered : ℕ)
     low : at c < R .top c
     low = picked-open R s c r pick .1
 
-    number : (f : ℕ) → f < R .fields → at f < R .top f → isNan (R .ratio f (at f)) ≡ false
+    number : (f : ℕ) → f < R .fields → at f < R .top f → isNan (R .mnr f (at f)) ≡ false
     number f l h = U .number f (at f) l (omega arith)
 
-    rises : T (le (R .ratio c (at c)) (R .ratio c (at c + 1)))
+    rises : T (le (R .mnr c (at c)) (R .mnr c (at c + 1)))
     rises = U .rises c (at c) (pick .below) low
 
     back : at c + 1 - 1 ≡ at c
@@ -71,7 +71,7 @@ module _ (O : Order) (R : Rules) (C : Counting R) (U : Rising R) (offered : ℕ)
     first : (g : ℕ) → cost R s c ≤ s .left → Rule R c g (at c + 1) (at g) (closedIn (s .closed) g) (s .left - cost R s c)
     first g paid l m z h = rw back (λ below. go below (waits R (s .places) (s .closed) g) refl)
       where
-        go : T (lt (R .ratio g (at g)) (R .ratio c (at c))) → (b : Bool) → waits R (s .places) (s .closed) g ≡ b
+        go : T (lt (R .mnr g (at g)) (R .mnr c (at c))) → (b : Bool) → waits R (s .places) (s .closed) g ≡ b
             → (closedIn (s .closed) g ≡ true) × (cost R s c + (s .left - cost R s c) < cost R s g)
         go below true w =
             let least = picked-least O R U s c r pick g m w in

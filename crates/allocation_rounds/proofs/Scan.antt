@@ -41,13 +41,13 @@ closed-below R places closed f e h = go (closedIn closed f) refl
 pub record Picked (R : Rules) (places : List ℕ) (closed : List Bool) (n f : ℕ) (r : Float) : Type 0 where
   pub below : f < n
   pub waiting : waits R places closed f ≡ true
-  pub at : r ≡ R .ratio f (placeIn places f)
-  pub least : Order → ((g : ℕ) → g < n → waits R places closed g ≡ true → isNan (R .ratio g (placeIn places g)) ≡ false)
-      → (g : ℕ) → g < n → waits R places closed g ≡ true → T (le r (R .ratio g (placeIn places g)))
+  pub at : r ≡ R .mnr f (placeIn places f)
+  pub least : Order → ((g : ℕ) → g < n → waits R places closed g ≡ true → isNan (R .mnr g (placeIn places g)) ≡ false)
+      → (g : ℕ) → g < n → waits R places closed g ≡ true → T (le r (R .mnr g (placeIn places g)))
 
 module _ (R : Rules) (places : List ℕ) (closed : List Bool) where
-  abbrev ratioOf : ℕ → Float
-  ratioOf f = R .ratio f (placeIn places f)
+  abbrev mnrOf : ℕ → Float
+  mnrOf f = R .mnr f (placeIn places f)
 
   -- what a scan of the first n fields that has come to a candidate says
   abbrev Scanned : ℕ → Candidate → Type 0
@@ -55,14 +55,14 @@ module _ (R : Rules) (places : List ℕ) (closed : List Bool) where
   Scanned n (Field f r) = Picked R places closed n f r
 
   abbrev Leasts : ℕ → Float → Type 0
-  Leasts n r = (g : ℕ) → g < n → waits R places closed g ≡ true → T (le r (ratioOf g))
+  Leasts n r = (g : ℕ) → g < n → waits R places closed g ≡ true → T (le r (mnrOf g))
 
-  fewer : (n : ℕ) → ((g : ℕ) → g < suc n → waits R places closed g ≡ true → isNan (ratioOf g) ≡ false)
-      → (g : ℕ) → g < n → waits R places closed g ≡ true → isNan (ratioOf g) ≡ false
+  fewer : (n : ℕ) → ((g : ℕ) → g < suc n → waits R places closed g ≡ true → isNan (mnrOf g) ≡ false)
+      → (g : ℕ) → g < n → waits R places closed g ≡ true → isNan (mnrOf g) ≡ false
   fewer n num g l = num g (omega arith)
 
-  one-more : (n : ℕ) (r : Float) → Leasts n r → (waits R places closed n ≡ true → T (le r (ratioOf n))) → Leasts (suc n) r
-  one-more n r = up-to (λ g. waits R places closed g ≡ true → T (le r (ratioOf g))) n
+  one-more : (n : ℕ) (r : Float) → Leasts n r → (waits R places closed n ≡ true → T (le r (mnrOf n))) → Leasts (suc n) r
+  one-more n r = up-to (λ g. waits R places closed g ≡ true → T (le r (mnrOf g))) n
 
   -- a field that does not wait is passed over
   passed : (n : ℕ) (c : Candidate) → waits R places closed n ≡ false → Scanned n c → Scanned (suc n) c
@@ -75,16 +75,16 @@ module _ (R : Rules) (places : List ℕ) (closed : List Bool) where
   }
 
   -- a field that waits is considered
-  met : (n : ℕ) (c : Candidate) → waits R places closed n ≡ true → Scanned n c → Scanned (suc n) (consider c n (ratioOf n))
+  met : (n : ℕ) (c : Candidate) → waits R places closed n ≡ true → Scanned n c → Scanned (suc n) (consider c n (mnrOf n))
   met n Nobody e h = record {
     below = omega arith;
     waiting = e;
     at = refl;
-    least = λ O num. one-more n (ratioOf n) (λ g l q. absurd (true≢false (sym q ∙ h g l))) (λ q. reflexive O (ratioOf n) (num n (omega arith) e));
+    least = λ O num. one-more n (mnrOf n) (λ g l q. absurd (true≢false (sym q ∙ h g l))) (λ q. reflexive O (mnrOf n) (num n (omega arith) e));
   }
-  met n (Field f r) e h = go (le r (ratioOf n)) refl
+  met n (Field f r) e h = go (le r (mnrOf n)) refl
     where
-      go : (b : Bool) → le r (ratioOf n) ≡ b → Scanned (suc n) (cond b (Field f r) (Field n (ratioOf n)))
+      go : (b : Bool) → le r (mnrOf n) ≡ b → Scanned (suc n) (cond b (Field f r) (Field n (mnrOf n)))
       go true p = record {
         below = let l = h .below in omega arith;
         waiting = h .waiting;
@@ -98,9 +98,9 @@ module _ (R : Rules) (places : List ℕ) (closed : List Bool) where
         least = λ O num.
             let a = num n (omega arith) e in
             let b : isNan r ≡ false = ap isNan (h .at) ∙ fewer n num f (h .below) (h .waiting) in
-            one-more n (ratioOf n)
-            (λ g l q. O .transitive (ratioOf n) r (ratioOf g) a b (fewer n num g l q) (O .total r (ratioOf n) b a p) (h .least O (fewer n num) g l q))
-            (λ q. reflexive O (ratioOf n) a);
+            one-more n (mnrOf n)
+            (λ g l q. O .transitive (mnrOf n) r (mnrOf g) a b (fewer n num g l q) (O .total r (mnrOf n) b a p) (h .least O (fewer n num) g l q))
+            (λ q. reflexive O (mnrOf n) a);
       }
 
   scanned : (n : ℕ) → Scanned n (best R places closed n)
@@ -108,7 +108,7 @@ module _ (R : Rules) (places : List ℕ) (closed : List Bool) where
   scanned (suc n) = go (scanned n) (waits R places closed n) refl
     where
       go : Scanned n (best R places closed n) → (w : Bool) → waits R places closed n ≡ w
-          → Scanned (suc n) (cond w (consider (best R places closed n) n (ratioOf n)) (best R places closed n))
+          → Scanned (suc n) (cond w (consider (best R places closed n) n (mnrOf n)) (best R places closed n))
       go h true e = met n (best R places closed n) e h
       go h false e = passed n (best R places closed n) e h
 
@@ -133,6 +133,6 @@ picked-open R s f r pick = open-below R (s .places) (s .closed) f (pick .waiting
 
 -- where no ratio is a NaN, its ratio is the least of those that wait
 pub picked-least : Order → (R : Rules) → Rising R → (s : Run) (f : ℕ) (r : Float) → PickedIn R s f r
-    → (g : ℕ) → g < R .fields → waits R (s .places) (s .closed) g ≡ true → T (le r (R .ratio g (placeIn (s .places) g)))
+    → (g : ℕ) → g < R .fields → waits R (s .places) (s .closed) g ≡ true → T (le r (R .mnr g (placeIn (s .places) g)))
 picked-least O R U s f r pick =
     pick .least O (λ g l w. U .number g (placeIn (s .places) g) l (let h = open-below R (s .places) (s .closed) g w .1 in omega arith))

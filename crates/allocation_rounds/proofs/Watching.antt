@@ -26,23 +26,23 @@ module _ (R : Rules) (places : List ℕ) (closed : List Bool) (f : ℕ) (waiting
   flag-here : getD (set waiting f isWaiting) f false ≡ waits R places closed f
   flag-here = getD-set-same waiting f isWaiting false l ∙ asked
 
-  pub rewatched-met : (w : f < length present) (ratio : Float) → ratio ≡ R .ratio f (placeIn places f)
-    → Rewatched R places closed f waiting present (set waiting f isWaiting) (set present f ratio)
-  rewatched-met w ratio e = record {
+  pub rewatched-met : (w : f < length present) (mnr : Float) → mnr ≡ R .mnr f (placeIn places f)
+    → Rewatched R places closed f waiting present (set waiting f isWaiting) (set present f mnr)
+  rewatched-met w mnr e = record {
     long = length-set waiting f isWaiting;
-    wide = length-set present f ratio;
-    here = record { flag = flag-here; ratio = λ t. getD-set-same present f ratio nan w ∙ e };
+    wide = length-set present f mnr;
+    here = record { flag = flag-here; mnr = λ t. getD-set-same present f mnr nan w ∙ e };
     else-flag = λ g ne. getD-set-other waiting f g isWaiting false ne;
-    else-ratio = λ g ne. getD-set-other present f g ratio nan ne
+    else-mnr = λ g ne. getD-set-other present f g mnr nan ne
   }
 
   pub rewatched-over : isWaiting ≡ false → Rewatched R places closed f waiting present (set waiting f isWaiting) present
   rewatched-over n = record {
     long = length-set waiting f isWaiting;
     wide = refl;
-    here = record { flag = flag-here; ratio = λ t. absurd (true≢false (sym t ∙ sym asked ∙ n)) };
+    here = record { flag = flag-here; mnr = λ t. absurd (true≢false (sym t ∙ sym asked ∙ n)) };
     else-flag = λ g ne. getD-set-other waiting f g isWaiting false ne;
-    else-ratio = λ g ne. refl
+    else-mnr = λ g ne. refl
   }
 
 -- ---- all of them
@@ -50,14 +50,14 @@ module _ (R : Rules) (places : List ℕ) (closed : List Bool) (f : ℕ) (waiting
 -- a field that was not touched is still watched, in a state that agrees with the old one there
 module _ (R : Rules) (places places′ : List ℕ) (closed closed′ waiting waiting′ : List Bool) (present present′ : List Float) (g : ℕ)
     (at : placeIn places′ g ≡ placeIn places g) (shut : closedIn closed′ g ≡ closedIn closed g)
-    (flag : getD waiting′ g false ≡ getD waiting g false) (ratio : getD present′ g nan ≡ getD present g nan) where
+    (flag : getD waiting′ g false ≡ getD waiting g false) (mnr : getD present′ g nan ≡ getD present g nan) where
   same-waits : waits R places′ closed′ g ≡ waits R places closed g
   same-waits = rw (at, shut)
 
   still : WatchedAt R places closed waiting present g → WatchedAt R places′ closed′ waiting′ present′ g
   still w = record {
     flag = flag ∙ w .flag ∙ sym same-waits;
-    ratio = λ t. ratio ∙ w .ratio (sym same-waits ∙ t) ∙ ap (R .ratio g) (sym at)
+    mnr = λ t. mnr ∙ w .mnr (sym same-waits ∙ t) ∙ ap (R .mnr g) (sym at)
   }
 
 -- the first n fields, then one more
@@ -77,7 +77,7 @@ one-more-watched R places closed n waiting waiting′ present present′ all r =
     go : (g : ℕ) → g < n + 1 → Dec (g ≡ n) → WatchedAt R places closed waiting′ present′ g
     go g h (yes e) = rw e (r .here)
     go g h (no ne) =
-        still R places places closed closed waiting waiting′ present present′ g refl refl (r .else-flag g ne) (r .else-ratio g ne) (all .each g (omega arith))
+        still R places places closed closed waiting waiting′ present present′ g refl refl (r .else-flag g ne) (r .else-mnr g ne) (all .each g (omega arith))
 
 -- a field's turn changes nothing of the others
 taken-else : (f cost : ℕ) (s : Run) (g : ℕ) → (g ≡ f → ⊥)
@@ -104,7 +104,7 @@ taken-watched R s r f cost n waiting waiting′ present present′ e all w = rec
         let o = taken-else f cost s g ne in
         still R (s .places) (r .places) (s .closed) (r .closed) waiting waiting′ present present′ g
         (ap (λ (r : Run). placeIn (r .places) g) e ∙ o .0) (ap (λ (r : Run). closedIn (r .closed) g) e ∙ o .1)
-        (w .else-flag g ne) (w .else-ratio g ne) (all .each g h)
+        (w .else-flag g ne) (w .else-mnr g ne) (all .each g h)
 
 -- ---- the candidate
 
@@ -117,20 +117,20 @@ module _ (waiting : List Bool) (present : List Float) (n : ℕ) (c : Candidate) 
   scan-met w m q p = rw (add-one n, w) (p ∙ q ∙ ap (λ (c : Candidate). consider c n (getD present n nan)) e)
 
 -- all of them: the candidate of the state
-module _ (places : List ℕ) (closed : List Bool) (fields : ℕ) (tops : List ℕ) (ratios : List Float) (waiting : List Bool) (present : List Float) where
-  scan-is : (charges : List ℕ) (n : ℕ) → ((f : ℕ) → f < n → WatchedAt (watching tops ratios) places closed waiting present f)
-    → scanned waiting present n ≡ best (lent fields tops ratios charges) places closed n
+module _ (places : List ℕ) (closed : List Bool) (fields : ℕ) (tops : List ℕ) (mnrs : List Float) (waiting : List Bool) (present : List Float) where
+  scan-is : (charges : List ℕ) (n : ℕ) → ((f : ℕ) → f < n → WatchedAt (watching tops mnrs) places closed waiting present f)
+    → scanned waiting present n ≡ best (lent fields tops mnrs charges) places closed n
   scan-is charges zero all = refl
   scan-is charges (suc n) all =
-      go (waits (watching tops ratios) places closed n) refl (scan-is charges n (λ f h. all f (lt-trans h (lt-suc-self n))))
+      go (waits (watching tops mnrs) places closed n) refl (scan-is charges n (λ f h. all f (lt-trans h (lt-suc-self n))))
     where
-      at : WatchedAt (watching tops ratios) places closed waiting present n
+      at : WatchedAt (watching tops mnrs) places closed waiting present n
       at = all n (lt-suc-self n)
-      go : (b : Bool) → waits (watching tops ratios) places closed n ≡ b → scanned waiting present n ≡ best (lent fields tops ratios charges) places closed n
-        → scanned waiting present (suc n) ≡ best (lent fields tops ratios charges) places closed (suc n)
-      go true e ih = rw (at .flag ∙ e, e, at .ratio e, ih)
+      go : (b : Bool) → waits (watching tops mnrs) places closed n ≡ b → scanned waiting present n ≡ best (lent fields tops mnrs charges) places closed n
+        → scanned waiting present (suc n) ≡ best (lent fields tops mnrs charges) places closed (suc n)
+      go true e ih = rw (at .flag ∙ e, e, at .mnr e, ih)
       go false e ih = rw (at .flag ∙ e, e) ih
 
-  pub scan-best : (n : ℕ) (r : Candidate) → n ≡ min fields 64 → Watched (watching tops ratios) places closed n waiting present → r ≡ scanned waiting present n
-    → BestIs places closed fields tops ratios r
-  scan-best n r e w q = best-is places closed fields tops ratios n r e (λ charges. q ∙ scan-is charges n (w .each))
+  pub scan-best : (n : ℕ) (r : Candidate) → n ≡ min fields 64 → Watched (watching tops mnrs) places closed n waiting present → r ≡ scanned waiting present n
+    → BestIs places closed fields tops mnrs r
+  scan-best n r e w q = best-is places closed fields tops mnrs n r e (λ charges. q ∙ scan-is charges n (w .each))

@@ -11,8 +11,8 @@ use Rattle.allocation_rounds.specs.Rounds.{Rules, placeIn, best, repeate
 use Rattle.allocation_rounds.specs.Lent.{lent}
 
 -- the candidate by the rules that are lent, whatever is charged; a field that is one is among the 64 and below place 15
-pub record BestIs (places : List ℕ) (closed : List Bool) (fields : ℕ) (tops : List ℕ) (ratios : List Float) (r : Candidate) : Type 0 where
-  pub whole : (charges : List ℕ) → r ≡ best (lent fields tops ratios charges) places closed (min fields 64)
+pub record BestIs (places : List ℕ) (closed : List Bool) (fields : ℕ) (tops : List ℕ) (mnrs : List Float) (r : Candidate) : Type 0 where
+  pub whole : (charges : List ℕ) → r ≡ best (lent fields tops mnrs charges) places closed (min fields 64)
   pub inside : (f : ℕ) (q : Float) → r ≡ Field f q → (f < 64) × (placeIn places f < 15)
 
 -- the state that a run goes on to: not more bits are left than before, and a place below 16 stays below 16

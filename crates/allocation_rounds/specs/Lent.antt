@@ -7,9 +7,9 @@ use lib.ListN.{getD}
 use Rattle.allocation_rounds.specs.Rounds.{Rules}
 
 abbrev pub lent : ℕ → List ℕ → List Float → List ℕ → Rules
-lent fields tops ratios charges = record {
+lent fields tops mnrs charges = record {
   fields = min fields 64;
   top = λ f. min (getD tops f 0) 15;
-  ratio = λ f p. getD ratios (16 * f + p) nan;
+  mnr = λ f p. getD mnrs (16 * f + p) nan;
   charge = λ f p. getD charges (16 * f + p) 0
 }

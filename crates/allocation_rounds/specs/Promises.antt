@@ -21,8 +21,8 @@ pub record Counting (R : Rules) : Type 0 where
 
 -- no ratio is a NaN, and a field's ratio never falls as the field rises
 pub record Rising (R : Rules) : Type 0 where
-  pub number : (f p : ℕ) → f < R .fields → p ≤ R .top f → isNan (R .ratio f p) ≡ false
-  pub rises : (f p : ℕ) → f < R .fields → p < R .top f → T (le (R .ratio f p) (R .ratio f (p + 1)))
+  pub number : (f p : ℕ) → f < R .fields → p ≤ R .top f → isNan (R .mnr f p) ≡ false
+  pub rises : (f p : ℕ) → f < R .fields → p < R .top f → T (le (R .mnr f p) (R .mnr f (p + 1)))
 
 -- 1. no open field is below its top place
 abbrev pub Over : Rules → Run → Type 0
@@ -41,5 +41,5 @@ Spent R places left = (f : ℕ) → f < R .fields → placeIn places f < R .top 
 abbrev pub Exchanged : Rules → List ℕ → ℕ → Type 0
 Exchanged R places left =
     (f g : ℕ) → f < R .fields → g < R .fields → 0 < placeIn places f → placeIn places g < R .top g
-    → T (lt (R .ratio g (placeIn places g)) (R .ratio f (placeIn places f - 1)))
+    → T (lt (R .mnr g (placeIn places g)) (R .mnr f (placeIn places f - 1)))
     → price R f (placeIn places f - 1) + left < price R g (placeIn places g)

@@ -16,7 +16,7 @@ use Rattle.allocation_rounds.specs.declared.Run.{Run}
 pub record Rules : Type 0 where
   pub fields : ℕ
   pub top : ℕ → ℕ
-  pub ratio : ℕ → ℕ → Float
+  pub mnr : ℕ → ℕ → Float
   pub charge : ℕ → ℕ → ℕ
 
 -- the price of the step that leaves a place: what is charged more at the next
@@ -47,7 +47,7 @@ abbrev pub best : Rules → List ℕ → List Bool → ℕ → Candidate
 best R places closed zero = Nobody
 best R places closed (suc n) =
     cond (waits R places closed n)
-    (consider (best R places closed n) n (R .ratio n (placeIn places n)))
+    (consider (best R places closed n) n (R .mnr n (placeIn places n)))
     (best R places closed n)
 
 abbrev pub candidate : Rules → Run → Candidate

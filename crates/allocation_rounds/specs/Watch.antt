@@ -19,12 +19,12 @@ scanned waiting present (suc n) =
 
 -- the rules that are looked at: what is charged is not
 abbrev pub watching : List ℕ → List Float → Rules
-watching tops ratios = lent 64 tops ratios []
+watching tops mnrs = lent 64 tops mnrs []
 
 -- what is kept of a field is true of the state
 pub record WatchedAt (R : Rules) (places : List ℕ) (closed waiting : List Bool) (present : List Float) (f : ℕ) : Type 0 where
   pub flag : getD waiting f false ≡ waits R places closed f
-  pub ratio : waits R places closed f ≡ true → getD present f nan ≡ R .ratio f (placeIn places f)
+  pub mnr : waits R places closed f ≡ true → getD present f nan ≡ R .mnr f (placeIn places f)
 
 -- and of each of the first n fields
 pub record Watched (R : Rules) (places : List ℕ) (closed : List Bool) (n : ℕ) (waiting : List Bool) (present : List Float) : Type 0 where
@@ -39,4 +39,4 @@ pub record Rewatched (R : Rules) (places : List ℕ) (closed : List Bool) (f : �
   pub wide : length present ≡ length present₀
   pub here : WatchedAt R places closed waiting present f
   pub else-flag : (g : ℕ) → (g ≡ f → ⊥) → getD waiting g false ≡ getD waiting₀ g false
-  pub else-ratio : (g : ℕ) → (g ≡ f → ⊥) → getD present g nan ≡ getD present₀ g nan
+  pub else-mnr : (g : ℕ) → (g ≡ f → ⊥) → getD present g nan ≡ getD present₀ g nan

@@ -18,18 +18,18 @@ pub enum Candidate {
 impl Candidate {
     // The first of equals stays; a NaN is replaced and replaces. The early return compiles to a branch, not to a choice of
     // two values that each field would wait for.
-    pub fn consider(mut self, field: usize, ratio: f64) -> Candidate
-        ensures { λ r. ⌜ r ≡ consider self field ratio ⌝ }
+    pub fn consider(mut self, field: usize, mnr: f64) -> Candidate
+        ensures { λ r. ⌜ r ≡ consider self field mnr ⌝ }
     {
         match self {
             Candidate::Field(held, least) => {
-                if least <= ratio {
+                if least <= mnr {
                     return Candidate::Field(held, least);
                 }
             }
             Candidate::Nobody => {}
         }
-        self = Candidate::Field(field, ratio);
+        self = Candidate::Field(field, mnr);
         self
     }
 }
@@ -63,12 +63,12 @@ fn is_waiting(places: &[u8; 64], closed: &[bool; 64], tops: &[u8; 64], field: us
 }
 
 // The ratio of a field at its place.
-fn ratio_of(places: &[u8; 64], ratios: &[f64; 1024], field: usize) -> f64
+fn mnr_of(places: &[u8; 64], mnrs: &[f64; 1024], field: usize) -> f64
     requires { ⌜ (field < 64) × (placeIn (now places) field < 15) ⌝ }
-    ensures { λ r. ⌜ r ≡ getD (now (ratios .entry)) (16 * field + placeIn (now (places .entry)) field) nan ⌝ }
+    ensures { λ r. ⌜ r ≡ getD (now (mnrs .entry)) (16 * field + placeIn (now (places .entry)) field) nan ⌝ }
 {
     let place = places[field] as usize;
-    ratios[16 * field + place]
+    mnrs[16 * field + place]
 }
 
 // How many fields are considered: at most 64.
@@ -84,17 +84,17 @@ pub fn best<'a>(
     closed: &'a [bool; 64],
     fields: usize,
     tops: &[u8; 64],
-    ratios: &[f64; 1024],
+    mnrs: &[f64; 1024],
 ) -> Candidate
-    ensures { λ r. ⌜ BestIs (now (places .entry)) (now (closed .entry)) fields (now (tops .entry)) (now (ratios .entry)) r ⌝ }
+    ensures { λ r. ⌜ BestIs (now (places .entry)) (now (closed .entry)) fields (now (tops .entry)) (now (mnrs .entry)) r ⌝ }
 {
     let end = considered(fields);
     let mut found = Candidate::Nobody;
     let mut field: usize = 0;
     while field < end {
         if is_waiting(places, closed, tops, field) {
-            let ratio = ratio_of(places, ratios, field);
-            found = found.consider(field, ratio);
+            let mnr = mnr_of(places, mnrs, field);
+            found = found.consider(field, mnr);
         }
         field = field + 1;
     }
@@ -106,18 +106,18 @@ fn watch<'a>(
     places: &'a [u8; 64],
     closed: &'a [bool; 64],
     tops: &[u8; 64],
-    ratios: &[f64; 1024],
+    mnrs: &[f64; 1024],
     field: usize,
     waiting: &mut [bool; 64],
     present: &mut [f64; 64],
 )
     requires { ⌜ (field < 64) × (length (now waiting) ≡ 64) × (length (now present) ≡ 64) ⌝ }
-    ensures { λ _. ⌜ Rewatched (watching (now (tops .entry)) (now (ratios .entry))) (now (places .entry)) (now (closed .entry)) field (now (waiting .entry)) (now (present .entry)) (now (waiting .exit)) (now (present .exit)) ⌝ }
+    ensures { λ _. ⌜ Rewatched (watching (now (tops .entry)) (now (mnrs .entry))) (now (places .entry)) (now (closed .entry)) field (now (waiting .entry)) (now (present .entry)) (now (waiting .exit)) (now (present .exit)) ⌝ }
 {
     let waits = is_waiting(places, closed, tops, field);
     waiting[field] = waits;
     if waits {
-        present[field] = ratio_of(places, ratios, field);
+        present[field] = mnr_of(places, mnrs, field);
     }
 }
 
@@ -126,17 +126,17 @@ fn watch_all<'a>(
     places: &'a [u8; 64],
     closed: &'a [bool; 64],
     tops: &[u8; 64],
-    ratios: &[f64; 1024],
+    mnrs: &[f64; 1024],
     end: usize,
     waiting: &mut [bool; 64],
     present: &mut [f64; 64],
 )
     requires { ⌜ (end ≤ 64) × (length (now waiting) ≡ 64) × (length (now present) ≡ 64) ⌝ }
-    ensures { λ _. ⌜ Watched (watching (now (tops .entry)) (now (ratios .entry))) (now (places .entry)) (now (closed .entry)) end (now (waiting .exit)) (now (present .exit)) ⌝ }
+    ensures { λ _. ⌜ Watched (watching (now (tops .entry)) (now (mnrs .entry))) (now (places .entry)) (now (closed .entry)) end (now (waiting .exit)) (now (present .exit)) ⌝ }
 {
     let mut field: usize = 0;
     while field < end {
-        watch(places, closed, tops, ratios, field, waiting, present);
+        watch(places, closed, tops, mnrs, field, waiting, present);
         field = field + 1;
     }
 }
@@ -224,12 +224,12 @@ impl Run {
         mut self,
         fields: usize,
         tops: &[u8; 64],
-        ratios: &[f64; 1024],
+        mnrs: &[f64; 1024],
         charges: &[u32; 1024],
     ) -> Run
-        ensures { λ r. ⌜ Onward self (round (lent fields (now (tops .entry)) (now (ratios .entry)) (now (charges .entry))) self) r ⌝ }
+        ensures { λ r. ⌜ Onward self (round (lent fields (now (tops .entry)) (now (mnrs .entry)) (now (charges .entry))) self) r ⌝ }
     {
-        let found = best(&self.places, &self.closed, fields, tops, ratios);
+        let found = best(&self.places, &self.closed, fields, tops, mnrs);
         let Candidate::Field(field, _) = found else {
             return self;
         };
@@ -243,16 +243,16 @@ impl Run {
         self,
         fields: usize,
         tops: &[u8; 64],
-        ratios: &[f64; 1024],
+        mnrs: &[f64; 1024],
         charges: &[u32; 1024],
     ) -> Run
-        ensures { λ r. ⌜ Finished (lent fields (now (tops .entry)) (now (ratios .entry)) (now (charges .entry))) self r ⌝ }
+        ensures { λ r. ⌜ Finished (lent fields (now (tops .entry)) (now (mnrs .entry)) (now (charges .entry))) self r ⌝ }
     {
         let mut run = self;
         let end = considered(fields);
         let mut waiting = [false; 64];
         let mut present = [0.0; 64];
-        watch_all(&run.places, &run.closed, tops, ratios, end, &mut waiting, &mut present);
+        watch_all(&run.places, &run.closed, tops, mnrs, end, &mut waiting, &mut present);
         loop {
             let found = candidate_among(&waiting, &present, end);
             let Candidate::Field(field, _) = found else {
@@ -260,7 +260,7 @@ impl Run {
             };
             let price = price_of(&run.places, charges, field);
             run = run.taken(field, price);
-            watch(&run.places, &run.closed, tops, ratios, field, &mut waiting, &mut present);
+            watch(&run.places, &run.closed, tops, mnrs, field, &mut waiting, &mut present);
         }
     }
 }

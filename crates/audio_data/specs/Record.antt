@@ -3,7 +3,8 @@ use Prim.Native.Nat.{ℕ}
 use lib.ListN.{replicate}
 use Rattle.bitalloc.specs.declared.BitAllocTable.{BitAllocTable}
 use Rattle.bitalloc.specs.declared.BitAllocTable.the-variants.{B2a}
-use Rattle.bitalloc.specs.Tables.{sblimitOf}
+use Rattle.layout.specs.declared.Layout.{Layout}
+use Rattle.layout.specs.Layout.{limitOf}
 use Rattle.audio_data.specs.declared.Scfsi.the-variants.{ThreePerGranule}
 use Rattle.audio_data.specs.declared.AudioData.{AudioData}
 
@@ -19,9 +20,9 @@ idle table sblimit bound channels = record {
   scalefactor = replicate 192 0
 }
 
--- nothing allocated yet
-unfoldable pub fresh : BitAllocTable → ℕ → ℕ → AudioData
-fresh table bound channels = idle table (sblimitOf table) bound channels
+-- nothing allocated yet in a layout
+unfoldable pub fresh : Layout → AudioData
+fresh l = idle (l .table) (limitOf l) (l .bound) (l .channels)
 
 -- what stands beside a refusal
 unfoldable pub filler : AudioData

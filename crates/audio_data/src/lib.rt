@@ -5,6 +5,7 @@ ghost use Rattle.audio_data.specs.Scfsi.{CodeIs, PartsAre};
 ghost use Rattle.audio_data.specs.Record.{fresh, filler};
 use bitalloc::BitAllocTable;
 use bitalloc::NUM_SUBBANDS;
+use layout::Layout;
 
 // Scalefactor selection information (2.4.2.6): which of the three granules, of 12 samples each, share a scalefactor.
 pub enum Scfsi {
@@ -44,7 +45,7 @@ impl Scfsi {
     }
 }
 
-// One slot's scfsi. A slot is one channel of one subband; its number is 32 * channel + subband.
+// One slot's scfsi.
 pub struct ScfsiSlot {
     pub scfsi: Scfsi,
 }
@@ -66,15 +67,16 @@ pub struct AudioData {
 }
 
 impl AudioData {
-    // Nothing allocated yet.
-    pub fn new(table: BitAllocTable, bound: usize, channels: usize) -> AudioData
-        ensures { λ r. ⌜ r ≡ fresh table bound channels ⌝ }
+    // Nothing allocated yet in a layout.
+    pub fn new(layout: Layout) -> AudioData
+        ensures { λ r. ⌜ r ≡ fresh layout ⌝ }
     {
+        let table = layout.table;
         AudioData {
             table,
             sblimit: table.sblimit(),
-            bound,
-            channels,
+            bound: layout.bound,
+            channels: layout.channels,
             nb_steps: [0; 2 * NUM_SUBBANDS],
             scfsi: [ScfsiSlot {
                 scfsi: Scfsi::ThreePerGranule,

@@ -1,8 +1,8 @@
 -- Laws of the first questions, and of what is written.
 use mathlib.Core.Path.{_≡_, refl, sym, ap, _∙_, subst}
-use mathlib.Core.Bool.{Bool, true, false, _||_}
+use mathlib.Core.Bool.{Bool, true, false, cond, _||_}
 use mathlib.Core.List.{List, [], _∷_}
-use mathlib.Core.Option.{Option, some}
+use mathlib.Core.Option.{Option, none, some}
 use Prim.Native.Nat.{ℕ, suc, _+_, _≤_, _<_}
 use native.Mathlib.Nat.{not-suc-le-zero, zero-add}
 use native.Mathlib.Numerals.{add-one}
@@ -14,7 +14,8 @@ use lib.Seq.{paste, paste-zero, paste-suc, take-length}
 use borrow.Author.Tests.{ltb-false}
 use Rattle.bitalloc.specs.declared.OptionU32.{OptionU32}
 use Rattle.bitalloc.specs.declared.OptionU32.the-variants as U32
-use Rattle.bitalloc.specs.Options.{numberIn}
+use Rattle.header.specs.Questions.{number}
+use Rattle.bitalloc.specs.Options.{isSome, numberIn}
 use Rattle.bitalloc.specs.declared.QuantClass.{QuantClass}
 use Rattle.bitalloc.specs.Classes.{bitsPerSample}
 use Rattle.audio_data.specs.Scfsi.{codeOf}
@@ -90,6 +91,12 @@ found-one r o n p q = ap orNothing (sym (ap numberIn q) ∙ p)
 
 pub found-none : (r : OptionU32) (o : Option ℕ) → numberIn r ≡ o → r ≡ U32.None → silent 97 ≡ orNothing o
 found-none r o p q = ap orNothing (sym (ap numberIn q) ∙ p)
+
+-- a question whether there is something, and values of it
+pub found-or : {X A : Type 0} (o p : Option X) (n : ℕ) (values : Option X → List A) → o ≡ p
+  → reply (cond (isSome o) 0 n) (values o) ≡ reply (number (record { yes = isSome p; otherwise = n } ∷ [])) (values p)
+found-or o none n values e = rw e
+found-or o (some x) n values e = rw e
 
 -- ---- a flag as a number
 

@@ -12,6 +12,7 @@ use Rattle.header.specs.Questions.{Question, number}
 use Rattle.header.specs.Header.{frameSize}
 use Rattle.bitalloc.specs.declared.BitAllocTable.{BitAllocTable}
 use Rattle.bitalloc.specs.declared.QuantClass.{QuantClass}
+use Rattle.bitalloc.specs.Options.{isSome}
 use Rattle.bitalloc.specs.Select.{tableOf}
 use Rattle.bitalloc.specs.Tables.{tableNumber, sblimitOf, nbalOf, stepsAt, indexOf}
 use Rattle.bitalloc.specs.Classes.{classOf, bitsPerSample}
@@ -22,10 +23,10 @@ use Rattle.encoder_scfsi.specs.declared.ScfsiSelection.{ScfsiSelection}
 use Rattle.encoder_scfsi.specs.Class.{classNumber}
 use Rattle.encoder_scfsi.specs.Select.{selection, bit}
 use Rattle.encoder_samples.specs.declared.Triplet.{Triplet}
-use Rattle.encoder_samples.specs.Entries.{sampleCode, tripletAnswer}
-use Rattle.slots.specs.Slots.{rowsOf}
+use Rattle.encoder_samples.specs.Entries.{classAsked, sampleCode, tripletAnswer}
+use Rattle.layout.specs.Slots.{smrRows}
 use Rattle.encoder_bit_budget.specs.declared.FixedBitBudget.{FixedBitBudget}
-use Rattle.encoder_bit_budget.specs.Budget.{isSome, budgetOf, availableOf}
+use Rattle.encoder_bit_budget.specs.Budget.{plain, tableAsked, budgetOf, availableOf}
 use Rattle.encoder_bit_budget.specs.Demand.{demandOf}
 use Rattle.encoder_bit_budget.specs.Snr.{snrOf}
 use Rattle.encoder_bit_allocator.specs.declared.Allocation.{Allocation}
@@ -34,17 +35,13 @@ use Rattle.c_answers.specs.Answers.{Reply, reply, orNothing}
 
 -- ---- of a header
 
--- question 1: a table is selected
-abbrev pub tableFound : Option BitAllocTable → Question
-tableFound o = record { yes = isSome o; otherwise = 1 }
-
 -- the number of a table, and 0 where there is none
 abbrev pub tableOr : Option BitAllocTable → ℕ
 tableOr none = 0
 tableOr (some t) = tableNumber t
 
 abbrev pub tableSelected : FrameHeader → Reply ℕ
-tableSelected h = reply (number (tableFound (tableOf h) ∷ [])) (tableOr (tableOf h) ∷ [])
+tableSelected h = reply (number (tableAsked h ∷ [])) (tableOr (tableOf h) ∷ [])
 
 abbrev pub frameSized : FrameHeader → Reply ℕ
 frameSized h = reply (frameSize h .answer) (frameSize h .bytes ∷ [])
@@ -55,28 +52,34 @@ budgetValues b =
     b .cb ∷ b .bhdr ∷ b .bcrc ∷ b .bbal ∷ b .sblimit ∷ b .bound ∷ b .channels ∷ tableNumber (b .table) ∷ []
 
 abbrev pub budgetFixed : FrameHeader → Reply ℕ
-budgetFixed h = reply (budgetOf h .answer) (budgetValues (budgetOf h .budget))
+budgetFixed h =
+    let a = budgetOf (plain h 0) in
+    reply (a .answer) (budgetValues (a .budget))
 
 abbrev pub bitsAvailable : ℕ → FrameHeader → Reply ℤ
-bitsAvailable banc h = reply (availableOf h banc .answer) (availableOf h banc .bits ∷ [])
+bitsAvailable banc h =
+    let a = availableOf (plain h banc) in
+    reply (a .answer) (a .bits ∷ [])
 
 -- ratios by slot
 abbrev pub bitsDemanded : List Float → FrameHeader → Reply ℕ
-bitsDemanded smr h = reply (demandOf h (rowsOf smr) .answer) (demandOf h (rowsOf smr) .bits ∷ [])
+bitsDemanded smr h =
+    let a = demandOf h (smrRows smr) in
+    reply (a .answer) (a .bits ∷ [])
 
 -- the allocation's two slices: the steps by slot; and the bits left, with cb, fixed and banc
 abbrev pub stepsAllocated : List Float → ℕ → FrameHeader → Reply ℕ
 stepsAllocated smr banc h =
-    let a = allocationOf h (rowsOf smr) banc in
+    let a = allocationOf (plain h banc) (smrRows smr) in
     reply (a .number) (a .audio .«nb_steps»)
 
-abbrev pub allocationBits : Allocation → List ℕ
-allocationBits a = a .left ∷ a .cb ∷ a .fixed ∷ a .banc ∷ []
+abbrev pub allocationValues : Allocation → List ℕ
+allocationValues a = a .left ∷ a .cb ∷ a .fixed ∷ a .banc ∷ []
 
 abbrev pub bitsAllocated : List Float → ℕ → FrameHeader → Reply ℕ
 bitsAllocated smr banc h =
-    let a = allocationOf h (rowsOf smr) banc in
-    reply (a .number) (allocationBits a)
+    let a = allocationOf (plain h banc) (smrRows smr) in
+    reply (a .number) (allocationValues a)
 
 -- ---- of a table
 
@@ -94,10 +97,6 @@ indexFound sb steps t = orNothing (indexOf t sb steps)
 
 -- ---- of a number of steps
 
--- question 5: there is a class
-abbrev pub classFound : Option QuantClass → Question
-classFound o = record { yes = isSome o; otherwise = 5 }
-
 -- the class, and zeros where there is none
 abbrev pub classOr : Option QuantClass → QuantClass
 classOr none = record {
@@ -112,7 +111,7 @@ classOr (some q) = q
 
 abbrev pub coefficients : ℕ → Reply Float
 coefficients steps =
-    reply (number (classFound (classOf steps) ∷ [])) (classOr (classOf steps) .c ∷ classOr (classOf steps) .d ∷ [])
+    reply (number (classAsked steps ∷ [])) (classOr (classOf steps) .c ∷ classOr (classOf steps) .d ∷ [])
 
 -- grouping, samples and bits per codeword, bits per sample
 abbrev pub figuresOf : QuantClass → List ℕ
@@ -120,19 +119,19 @@ figuresOf q =
     bit (q .grouping) ∷ q .«samples_per_codeword» ∷ q .«bits_per_codeword» ∷ bitsPerSample (q .«nb_steps») ∷ []
 
 abbrev pub classFigures : ℕ → Reply ℕ
-classFigures steps = reply (number (classFound (classOf steps) ∷ [])) (figuresOf (classOr (classOf steps)))
+classFigures steps = reply (number (classAsked steps ∷ [])) (figuresOf (classOr (classOf steps)))
 
--- question 5: Table C.5 has a ratio
-abbrev pub ratioListed : Option Float → Question
-ratioListed o = record { yes = isSome o; otherwise = 5 }
+-- question 5: Table C.5 has the number of steps
+abbrev pub snrAsked : ℕ → Question ℕ
+snrAsked steps = record { yes = isSome (snrOf steps); otherwise = 5 }
 
--- the ratio in dB, and 0 where there is none
-abbrev pub ratioOr : Option Float → Float
-ratioOr none = fin false 0 (pos 0)
-ratioOr (some x) = x
+-- the signal-to-noise ratio in dB, and 0 where there is none
+abbrev pub snrOr : Option Float → Float
+snrOr none = fin false 0 (pos 0)
+snrOr (some x) = x
 
-abbrev pub ratioFound : ℕ → Reply Float
-ratioFound steps = reply (number (ratioListed (snrOf steps) ∷ [])) (ratioOr (snrOf steps) ∷ [])
+abbrev pub snrFound : ℕ → Reply Float
+snrFound steps = reply (number (snrAsked steps ∷ [])) (snrOr (snrOf steps) ∷ [])
 
 -- ---- of samples
 

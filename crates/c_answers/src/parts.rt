@@ -1,13 +1,11 @@
 // What the other crates answer, in the parts that C takes: a number and values.
 ghost use mathlib.Core.Path.{_≡_};
-ghost use mathlib.Core.List.{[], _∷_};
+ghost use mathlib.Core.Bool.{cond};
 ghost use Rattle.header.specs.Header.{sizeOf};
-ghost use Rattle.header.specs.Questions.{number};
-ghost use Rattle.bitalloc.specs.Options.{tableIn, classIn};
+ghost use Rattle.bitalloc.specs.Options.{isSome, tableIn, classIn};
 ghost use Rattle.encoder_samples.specs.Entries.{codedOf};
-ghost use Rattle.encoder_bit_budget.specs.Snr.{ratioIn};
-ghost use Rattle.c_answers.specs.Replies.{tableFound, tableOr, limitsOf, allocationBits};
-ghost use Rattle.c_answers.specs.Replies.{classFound, classOr, figuresOf, ratioListed, ratioOr, tripletValues, selectionValues};
+ghost use Rattle.encoder_bit_budget.specs.Snr.{snrIn};
+ghost use Rattle.c_answers.specs.Replies.{tableOr, limitsOf, allocationValues, classOr, figuresOf, snrOr, tripletValues, selectionValues};
 use bitalloc::{BitAllocTable, OptionClass, OptionTable};
 use encoder_bit_allocator::Allocation;
 use encoder_bit_budget::OptionF64;
@@ -17,7 +15,7 @@ use header::FrameSize;
 
 // 0 with a table, 1 without.
 pub fn selected_number(selected: OptionTable) -> u32
-    ensures { λ r. ⌜ r ≡ number (tableFound (tableIn selected) ∷ []) ⌝ }
+    ensures { λ r. ⌜ r ≡ cond (isSome (tableIn selected)) 0 1 ⌝ }
 {
     match selected {
         OptionTable::Some(_) => 0,
@@ -65,7 +63,7 @@ pub fn steps_by_slot(allocation: Allocation) -> [u32; 64]
 
 // 0 with a class, 5 without.
 pub fn class_number(found: OptionClass) -> u32
-    ensures { λ r. ⌜ r ≡ number (classFound (classIn found) ∷ []) ⌝ }
+    ensures { λ r. ⌜ r ≡ cond (isSome (classIn found)) 0 5 ⌝ }
 {
     match found {
         OptionClass::Some(_) => 0,
@@ -108,9 +106,9 @@ pub fn figures(found: OptionClass) -> [u32; 4]
     }
 }
 
-// 0 with a ratio, 5 without.
-pub fn ratio_number(found: OptionF64) -> u32
-    ensures { λ r. ⌜ r ≡ number (ratioListed (ratioIn found) ∷ []) ⌝ }
+// 0 with a signal-to-noise ratio, 5 without.
+pub fn snr_number(found: OptionF64) -> u32
+    ensures { λ r. ⌜ r ≡ cond (isSome (snrIn found)) 0 5 ⌝ }
 {
     match found {
         OptionF64::Some(_) => 0,
@@ -118,9 +116,9 @@ pub fn ratio_number(found: OptionF64) -> u32
     }
 }
 
-// The ratio in dB, 0 without.
-pub fn ratio_db(found: OptionF64) -> f64
-    ensures { λ r. ⌜ r ≡ ratioOr (ratioIn found) ⌝ }
+// The signal-to-noise ratio in dB, 0 without.
+pub fn snr_db(found: OptionF64) -> f64
+    ensures { λ r. ⌜ r ≡ snrOr (snrIn found) ⌝ }
 {
     match found {
         OptionF64::Some(db) => db,
@@ -149,8 +147,8 @@ pub fn sample_code(coded: SampleCode) -> u32
 }
 
 // The bits left, and cb, fixed and banc.
-pub fn allocation_bits(allocation: Allocation) -> [u32; 4]
-    ensures { λ r. ⌜ r ≡ allocationBits allocation ⌝ }
+pub fn allocation_values(allocation: Allocation) -> [u32; 4]
+    ensures { λ r. ⌜ r ≡ allocationValues allocation ⌝ }
 {
     [allocation.left, allocation.cb, allocation.fixed, allocation.banc]
 }

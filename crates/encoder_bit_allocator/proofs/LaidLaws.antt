@@ -23,24 +23,24 @@ use Rattle.layout.specs.Layout.{fieldsOf, fieldIn, FieldIs}
 use Rattle.layout.proofs.FieldLaws.{few}
 use Rattle.encoder_bit_budget.specs.declared.OptionF64.{OptionF64}
 use Rattle.encoder_bit_budget.specs.declared.OptionF64.the-variants.{Some, None}
-use Rattle.encoder_bit_budget.specs.Snr.{snrOf, orNan, ratioIn}
+use Rattle.encoder_bit_budget.specs.Snr.{snrOf, orNan, snrIn}
 use Rattle.encoder_bit_budget.specs.Demand.{smrAt, smrsOf}
 use Rattle.encoder_bit_allocator.specs.Entries.{Entry, slotMnr, mnrOf, mnrAt, charge, chargeAt, entryIn, entryOf, entriesOf, ChargeIs}
 use Rattle.encoder_bit_allocator.specs.Laid.{LaidOut}
 
 -- ---- a slot, and a field
 
-pub slot-found : (steps : ℕ) (smr x : Float) (r : OptionF64) → (steps ≡ 0 → ⊥) → ratioIn r ≡ snrOf steps → r ≡ Some x
+pub slot-found : (steps : ℕ) (smr x : Float) (r : OptionF64) → (steps ≡ 0 → ⊥) → snrIn r ≡ snrOf steps → r ≡ Some x
   → sub binary64 x smr ≡ slotMnr steps smr
 slot-found steps smr x r z e q =
-    rw (ne-eqb steps 0 z) (ap (λ (y : Float). sub binary64 y smr) (ap orNan (sym (ap ratioIn q) ∙ e)))
+    rw (ne-eqb steps 0 z) (ap (λ (y : Float). sub binary64 y smr) (ap orNan (sym (ap snrIn q) ∙ e)))
 
 -- of steps that Table C.5 lacks nothing is known
-pub slot-unknown : (steps : ℕ) (smr : Float) (r : OptionF64) → (steps ≡ 0 → ⊥) → ratioIn r ≡ snrOf steps → r ≡ None
+pub slot-unknown : (steps : ℕ) (smr : Float) (r : OptionF64) → (steps ≡ 0 → ⊥) → snrIn r ≡ snrOf steps → r ≡ None
   → div binary64 (ofBits binary64 0) (ofBits binary64 0) ≡ slotMnr steps smr
 unfolding div ofBits sub
 slot-unknown steps smr r z e q =
-    rw (ne-eqb steps 0 z) (ap (λ (y : Float). sub binary64 y smr) (ap orNan (sym (ap ratioIn q) ∙ e)))
+    rw (ne-eqb steps 0 z) (ap (λ (y : Float). sub binary64 y smr) (ap orNan (sym (ap snrIn q) ∙ e)))
 
 pub mnr-both : (smr : List (List Float)) (x : AllocationField) (steps : ℕ) (a b r : Float) → x .both ≡ true
   → a ≡ slotMnr steps (smrAt smr 0 (x .subband)) → b ≡ slotMnr steps (smrAt smr 1 (x .subband)) → r ≡ minOf a b → r ≡ mnrOf (smrsOf smr x) steps

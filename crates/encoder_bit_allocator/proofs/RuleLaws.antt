@@ -22,7 +22,7 @@ use Rattle.bitalloc.specs.Tables.{rowOf, sblimitOf}
 use Rattle.bitalloc.specs.Classes.{sampleBits}
 use Rattle.bitalloc.proofs.RowLaws.{row-rule, places-small}
 use Rattle.encoder_bit_budget.specs.Snr.{snr}
-use Rattle.encoder_bit_budget.proofs.RowSnr.{row-ratio-rule, row-ratio-le, row-bits-rise}
+use Rattle.encoder_bit_budget.proofs.RowSnr.{row-snr-rule, row-snr-le, row-bits-rise}
 use Rattle.allocation_rounds.specs.Promises.{Counting, Rising}
 use Rattle.encoder_bit_allocator.specs.Entries.{Entry, slotMnr, least, mnrAt, chargeAt, entryIn, rulesOf}
 
@@ -51,9 +51,9 @@ sound-row t sb h =
       zeroth = first-zero (rowOf t sb) (r .zeroth);
       rising = λ p l. r .rising p (p + 1) (omega arith) l;
       bits = λ p l. le-of-lt (row-bits-rise t sb p (p + 1) (omega arith) l);
-      finite-snr = λ p. row-ratio-rule t sb p .finite;
-      least-snr = λ p. row-ratio-rule t sb p .least;
-      snrs = λ p l. row-ratio-le t sb p (p + 1) (omega arith) l
+      finite-snr = λ p. row-snr-rule t sb p .finite;
+      least-snr = λ p. row-snr-rule t sb p .least;
+      snrs = λ p l. row-snr-le t sb p (p + 1) (omega arith) l
     }
 
 -- ---- the charges along a row

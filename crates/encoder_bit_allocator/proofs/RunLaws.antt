@@ -61,7 +61,7 @@ module _ (l : Layout) (smr : List (List Float)) (costs : List ℕ) where
     agrees = record {
       fields = (let n = few l in let e : min fields 64 ≡ fields = omega arith in e) ∙ many;
       top = tops-agree;
-      ratio = λ f p h b. let s = room l smr costs f in
+      mnr = λ f p h b. let s = room l smr costs f in
         let i = in-row f p h (let k : p < min (getD tops f 0) 15 = b in omega arith) in laid .mnr f p i (omega arith);
       charge = λ f p h b. let s = room l smr costs f in let i = in-row f p h b in laid .charge f p i (omega arith)
     }
@@ -76,7 +76,7 @@ module _ (l : Layout) (smr : List (List Float)) (costs : List ℕ) where
 
 -- what `accepted` answers
 pub accepted-is : (l : Layout) (smr : List (List Float)) (costs : List ℕ) (offered : ℕ) (r : Run) (d : AudioData) (steps : List ℕ) → RunIs l smr costs offered r
-  → d ≡ fresh (l .table) (l .bound) (l .channels) → steps ≡ stepsOf l (r .places)
+  → d ≡ fresh l → steps ≡ stepsOf l (r .places)
   → _≡_ {A = Allocation} (record { number = 0; audio = withSteps d steps; left = r .left; cb = 0; fixed = 0; banc = 0 }) (accepted l smr costs offered)
 unfolding accepted
 accepted-is l smr costs offered r d steps run e q =
@@ -98,7 +98,7 @@ same-costs l smr costs offered c =
     let s : List Entry → Run = λ es. ended (rulesOf es) (started offered) in
     ap (λ (es : List Entry). record {
       number = 0;
-      audio = withSteps (fresh (l .table) (l .bound) (l .channels)) (stepsOf l (s es .places));
+      audio = withSteps (fresh l) (stepsOf l (s es .places));
       left = s es .left;
       cb = 0;
       fixed = 0;

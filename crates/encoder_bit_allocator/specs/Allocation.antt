@@ -74,7 +74,7 @@ accepted l smr costs offered =
     let s = runOf l smr costs offered in
     record {
       number = 0;
-      audio = withSteps (fresh (l .table) (l .bound) (l .channels)) (stepsOf l (s .places));
+      audio = withSteps (fresh l) (stepsOf l (s .places));
       left = s .left;
       cb = 0;
       fixed = 0;

@@ -58,7 +58,7 @@ unfoldable pub rulesOf : List Entry → Rules
 rulesOf es = record {
   fields = length es;
   top = λ f. length (entryIn es f .row) - 1;
-  ratio = λ f p. mnrAt (entryIn es f) p;
+  mnr = λ f p. mnrAt (entryIn es f) p;
   charge = λ f p. chargeAt (entryIn es f) p
 }
 

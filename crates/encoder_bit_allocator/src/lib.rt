@@ -224,9 +224,8 @@ fn accepted(layout: Layout, smr_db: &[[f64; 32]; 2], costs: &[u32; 64], offered:
     requires { ⌜ Modest (now costs) ⌝ }
     ensures { λ r. ⌜ r ≡ accepted layout (now («smr_db» .entry)) (now (costs .entry)) offered ⌝ }
 {
-    let table = layout.table;
     let run = run_of(layout, smr_db, costs, offered);
-    let mut audio = AudioData::new(table, layout.bound, layout.channels);
+    let mut audio = AudioData::new(layout);
     let places = run.places;
     let nb_steps = steps_held(layout, &places);
     audio.nb_steps = nb_steps;

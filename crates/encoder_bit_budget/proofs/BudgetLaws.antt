@@ -18,7 +18,8 @@ use Rattle.header.proofs.QuestionLaws.{said-yes, said-no, refusing}
 use Rattle.bitalloc.specs.declared.BitAllocTable.{BitAllocTable}
 use Rattle.bitalloc.specs.declared.BitAllocTable.the-variants.{B2a, B2b, B2c, B2d, B1Lsf}
 use Rattle.bitalloc.specs.Options.{isSome}
-use Rattle.bitalloc.specs.Tables.{nbalOf, sblimitOf, sumBelow}
+use Rattle.tables.specs.Sum.{sumBelow}
+use Rattle.bitalloc.specs.Tables.{nbalOf, sblimitOf}
 use Rattle.bitalloc.specs.Select.{tableOf}
 use Rattle.bitalloc.proofs.RowLaws.{sblimit-small}
 use Rattle.layout.specs.declared.Layout.{Layout}

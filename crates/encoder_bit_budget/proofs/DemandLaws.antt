@@ -139,9 +139,9 @@ first-step x b r e p = record { whole = rw e (p ∙ go b); most = rw p (small b)
     small true = lit≤ tt
     small false = lit≤ tt
 
-pub field-demand : (t : BitAllocTable) (smr : List (List Float)) (x : AllocationField) (first r : ℕ) (row : List ℕ) (ratio : Float)
-  → row ≡ rowOf t (x .subband) → ratio ≡ most (smrsOf smr x) → FirstStepIs x first → NeededIs row ratio first r → FieldDemandIs t smr x r
-field-demand t smr x first r row ratio e m f n = record {
+pub field-demand : (t : BitAllocTable) (smr : List (List Float)) (x : AllocationField) (first r : ℕ) (row : List ℕ) (s : Float)
+  → row ≡ rowOf t (x .subband) → s ≡ most (smrsOf smr x) → FirstStepIs x first → NeededIs row s first r → FieldDemandIs t smr x r
+field-demand t smr x first r row s e m f n = record {
   whole = n .whole ∙ (λ i. neededBits (e i) (m i) (f .whole i));
   most = let a = n .most in let b = f .most in omega arith
 }

@@ -24,7 +24,7 @@ use Rattle.bitalloc.specs.Classes.{classes, classOf, sampleBits, frameBits}
 use Rattle.bitalloc.proofs.RowLaws.{row-rule, row-rises, no-row}
 use Rattle.encoder_bit_budget.specs.Snr.{snrOf, snr, orNan}
 use Rattle.bitalloc.specs.Options.{isSome}
-use Rattle.encoder_bit_budget.proofs.SnrLaws.{keys, RatioRule, ratio-rule, ratio-rises, ratio-le}
+use Rattle.encoder_bit_budget.proofs.SnrLaws.{keys, SnrRule, snr-rule, snr-rises, snr-le}
 
 -- ---- the numbers of a row
 
@@ -79,37 +79,37 @@ held (some x) t = (x, refl)
 
 -- ---- Table C.5
 
-computed-ratios : T (all (λ n. isSome (snrOf n)) keys)
+computed-snrs : T (all (λ n. isSome (snrOf n)) keys)
 unfolding snrOf
-computed-ratios = tt
+computed-snrs = tt
 
 -- at every place, and past the last, where 0 stands
-pub row-ratio : (t : BitAllocTable) (sb i : ℕ) → snrOf (getD (rowOf t sb) i 0) ≡ some (snr (getD (rowOf t sb) i 0))
+pub row-snr : (t : BitAllocTable) (sb i : ℕ) → snrOf (getD (rowOf t sb) i 0) ≡ some (snr (getD (rowOf t sb) i 0))
 unfolding keyed oneOf
-row-ratio t sb i =
+row-snr t sb i =
     let n = getD (rowOf t sb) i 0 in
     let k = all-at (oneOf keys) (rowOf t sb) 0 tt (first (all (oneOf keys) (rowOf t sb)) _ (row-keyed t sb)) i in
-    let g = held (snrOf n) (of-member (λ n. isSome (snrOf n)) keys n computed-ratios k) in
+    let g = held (snrOf n) (of-member (λ n. isSome (snrOf n)) keys n computed-snrs k) in
     g .1 ∙ ap some (sym (ap orNan (g .1)))
 
-pub row-ratio-rule : (t : BitAllocTable) (sb i : ℕ) → RatioRule (snr (getD (rowOf t sb) i 0))
-row-ratio-rule t sb i = ratio-rule (getD (rowOf t sb) i 0) (snr (getD (rowOf t sb) i 0)) (row-ratio t sb i)
+pub row-snr-rule : (t : BitAllocTable) (sb i : ℕ) → SnrRule (snr (getD (rowOf t sb) i 0))
+row-snr-rule t sb i = snr-rule (getD (rowOf t sb) i 0) (snr (getD (rowOf t sb) i 0)) (row-snr t sb i)
 
 row-steps-le : (t : BitAllocTable) (sb i j : ℕ) → i ≤ j → j < length (rowOf t sb) → getD (rowOf t sb) i 0 ≤ getD (rowOf t sb) j 0
 row-steps-le t sb i j l h =
     ⊎-elim (λ e. le-of-eq (ap (λ (k : ℕ). getD (rowOf t sb) k 0) e)) (λ m. le-of-lt (row-rises t sb i j m h)) (eq-or-lt-of-le l)
 
-pub row-ratio-rises : (t : BitAllocTable) (sb i j : ℕ) → i < j → j < length (rowOf t sb)
+pub row-snr-rises : (t : BitAllocTable) (sb i j : ℕ) → i < j → j < length (rowOf t sb)
   → T (lt (snr (getD (rowOf t sb) i 0)) (snr (getD (rowOf t sb) j 0)))
-row-ratio-rises t sb i j l h =
-    ratio-rises (getD (rowOf t sb) i 0) (getD (rowOf t sb) j 0) (snr (getD (rowOf t sb) i 0)) (snr (getD (rowOf t sb) j 0))
-    (row-ratio t sb i) (row-ratio t sb j) (row-rises t sb i j l h)
+row-snr-rises t sb i j l h =
+    snr-rises (getD (rowOf t sb) i 0) (getD (rowOf t sb) j 0) (snr (getD (rowOf t sb) i 0)) (snr (getD (rowOf t sb) j 0))
+    (row-snr t sb i) (row-snr t sb j) (row-rises t sb i j l h)
 
-pub row-ratio-le : (t : BitAllocTable) (sb i j : ℕ) → i ≤ j → j < length (rowOf t sb)
+pub row-snr-le : (t : BitAllocTable) (sb i j : ℕ) → i ≤ j → j < length (rowOf t sb)
   → T (le (snr (getD (rowOf t sb) i 0)) (snr (getD (rowOf t sb) j 0)))
-row-ratio-le t sb i j l h =
-    ratio-le (getD (rowOf t sb) i 0) (getD (rowOf t sb) j 0) (snr (getD (rowOf t sb) i 0)) (snr (getD (rowOf t sb) j 0))
-    (row-ratio t sb i) (row-ratio t sb j) (row-steps-le t sb i j l h)
+row-snr-le t sb i j l h =
+    snr-le (getD (rowOf t sb) i 0) (getD (rowOf t sb) j 0) (snr (getD (rowOf t sb) i 0)) (snr (getD (rowOf t sb) j 0))
+    (row-snr t sb i) (row-snr t sb j) (row-steps-le t sb i j l h)
 
 -- ---- Table 3-B.4
 

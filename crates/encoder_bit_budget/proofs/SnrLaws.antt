@@ -20,41 +20,41 @@ use Rattle.tables.proofs.Rule.{first, second, all}
 use Rattle.tables.proofs.Search.{there, past, find-passes, none-passes}
 use Rattle.tables.proofs.Keys.{Each, at-key, no-key}
 use Rattle.ieee_order.proofs.Order.{finite-number, float-lt-le, float-refl}
-use Rattle.encoder_bit_budget.specs.Snr.{Ratio, ratios, decibels, rowNumber, orPast, snrOf}
+use Rattle.encoder_bit_budget.specs.Snr.{SnrRow, tableC5, decibels, rowNumber, orPast, snrOf}
 
 -- what a found ratio was found in
-of-row : (o : Option Ratio) (x : Float) → Option·map (λ r. r .db) o ≡ some x → (r : Ratio) × (o ≡ some r) × (r .db ≡ x)
+of-row : (o : Option SnrRow) (x : Float) → Option·map (λ r. r .db) o ≡ some x → (r : SnrRow) × (o ≡ some r) × (r .db ≡ x)
 of-row none x e = absurd (Option·none-ne-some x e)
 of-row (some r) x e = (r, refl, Option·some-injective _ _ e)
 
 -- what a test says of every row it says of the row of the steps
-row-of : (p : Ratio → Bool) (steps : ℕ) (x : Float) → T (all p ratios) → snrOf steps ≡ some x → T (p (record { steps = steps; db = x }))
+row-of : (p : SnrRow → Bool) (steps : ℕ) (x : Float) → T (all p tableC5) → snrOf steps ≡ some x → T (p (record { steps = steps; db = x }))
 unfolding snrOf
 row-of p steps x t e =
-    let r = of-row (find (λ r. eqb (r .steps) steps) ratios) x e in
-    let g = find-passes (λ r. eqb (r .steps) steps) p ratios (r .0) t (r .1) in
+    let r = of-row (find (λ r. eqb (r .steps) steps) tableC5) x e in
+    let g = find-passes (λ r. eqb (r .steps) steps) p tableC5 (r .0) t (r .1) in
     subst₂ (λ (s : ℕ) (y : Float). T (p (record { steps = s; db = y }))) (eqb-true _ _ (g .0)) (r .2) (g .1)
 
 -- ---- the rule of the table: each ratio is a finite number, at least 0, and the ratios rise with the steps
 
-ruled : Ratio → Ratio → Bool
+ruled : SnrRow → SnrRow → Bool
 ruled p q = finite (p .db) && (le (fin false 0 (pos 0)) (p .db) && (not (ltb (p .steps) (q .steps)) || lt (p .db) (q .db)))
 
-computed : T (all (λ p. all (ruled p) ratios) ratios)
-unfolding ruled ratios le lt
+computed : T (all (λ p. all (ruled p) tableC5) tableC5)
+unfolding ruled tableC5 le lt
 computed = tt
 
 rule-of : (a b : ℕ) (x y : Float) → snrOf a ≡ some x → snrOf b ≡ some y → T (ruled (record { steps = a; db = x }) (record { steps = b; db = y }))
-rule-of a b x y e f = row-of (ruled (record { steps = a; db = x })) b y (row-of (λ p. all (ruled p) ratios) a x computed e) f
+rule-of a b x y e f = row-of (ruled (record { steps = a; db = x })) b y (row-of (λ p. all (ruled p) tableC5) a x computed e) f
 
-pub record RatioRule (x : Float) : Type 0 where
+pub record SnrRule (x : Float) : Type 0 where
   pub number : isNan x ≡ false
   pub finite : T (finite x)
   pub least : T (le (fin false 0 (pos 0)) x)
 
-pub ratio-rule : (steps : ℕ) (x : Float) → snrOf steps ≡ some x → RatioRule x
+pub snr-rule : (steps : ℕ) (x : Float) → snrOf steps ≡ some x → SnrRule x
 unfolding ruled
-ratio-rule steps x e =
+snr-rule steps x e =
     let t = rule-of steps steps x x e e in
     record {
       number = finite-number x (first (finite x) _ t);
@@ -62,17 +62,17 @@ ratio-rule steps x e =
       least = first (le (fin false 0 (pos 0)) x) _ (second (finite x) _ t)
     }
 
-pub ratio-rises : (a b : ℕ) (x y : Float) → snrOf a ≡ some x → snrOf b ≡ some y → a < b → T (lt x y)
+pub snr-rises : (a b : ℕ) (x y : Float) → snrOf a ≡ some x → snrOf b ≡ some y → a < b → T (lt x y)
 unfolding ruled
-ratio-rises a b x y e f h =
+snr-rises a b x y e f h =
     let t = second (le (fin false 0 (pos 0)) x) _ (second (finite x) _ (rule-of a b x y e f)) in
     rw (lt-ltb a b h) at t
 
-pub ratio-le : (a b : ℕ) (x y : Float) → snrOf a ≡ some x → snrOf b ≡ some y → a ≤ b → T (le x y)
-ratio-le a b x y e f h =
+pub snr-le : (a b : ℕ) (x y : Float) → snrOf a ≡ some x → snrOf b ≡ some y → a ≤ b → T (le x y)
+snr-le a b x y e f h =
     ⊎-elim
-    (λ s. subst (λ (y : Float). T (le x y)) (Option·some-injective x y (sym e ∙ ap snrOf s ∙ f)) (float-refl x (ratio-rule a x e .number)))
-    (λ l. float-lt-le x y (ratio-rises a b x y e f l))
+    (λ s. subst (λ (y : Float). T (le x y)) (Option·some-injective x y (sym e ∙ ap snrOf s ∙ f)) (float-refl x (snr-rule a x e .number)))
+    (λ l. float-lt-le x y (snr-rises a b x y e f l))
     (eq-or-lt-of-le h)
 
 -- ---- what is not in the table
@@ -90,11 +90,11 @@ long-keys = 15 ∷ 31 ∷ 63 ∷ 127 ∷ 255 ∷ 511 ∷ 1023 ∷ 2047 ∷ 4095 
 abbrev pub keys : List ℕ
 keys = 0 ∷ 3 ∷ 5 ∷ 7 ∷ 9 ∷ long-keys
 
-keyed : Ratio → Bool
+keyed : SnrRow → Bool
 keyed r = oneOf keys (r .steps)
 
-computed-keys : T (all keyed ratios)
-unfolding keyed oneOf ratios
+computed-keys : T (all keyed tableC5)
+unfolding keyed oneOf tableC5
 computed-keys = tt
 
 pub no-row : (steps : ℕ) → (steps ≡ 0 → ⊥) → (steps ≡ 3 → ⊥) → (steps ≡ 5 → ⊥) → (steps ≡ 7 → ⊥) → (steps ≡ 9 → ⊥)
@@ -103,7 +103,7 @@ unfolding rowNumber keyed oneOf
 no-row steps a b c d e f =
     let h : oneOf keys steps ≡ false =
         rw (ne-eqb steps 0 a, ne-eqb steps 3 b, ne-eqb steps 5 c, ne-eqb steps 7 d, ne-eqb steps 9 e) (no-key long-keys steps f) in
-    sym (ap orPast (none-passes (λ r. eqb (r .steps) steps) keyed ratios computed-keys
+    sym (ap orPast (none-passes (λ r. eqb (r .steps) steps) keyed tableC5 computed-keys
     (λ r t. ne-eqb (r .steps) steps (λ e. subst T h (subst (λ (n : ℕ). T (oneOf keys n)) e t)))))
 
 -- ---- the row of a number of steps, and what stands there
@@ -115,26 +115,26 @@ computed-rows = (refl, (refl, (refl, (refl, (refl, (refl, (refl, (refl, (refl, (
 pub long-row : (steps : ℕ) → OneOf long-keys steps → 33 - leadingZeros 32 steps ≡ orPast (rowNumber steps)
 long-row steps h = at-key (λ n. 33 - leadingZeros 32 n ≡ orPast (rowNumber n)) long-keys steps computed-rows h
 
-column-at : (f : Ratio → Float) (rs : List Ratio) (i : ℕ) → Option·map f (getElem? rs i) ≡ getElem? (map f rs) i
+column-at : (f : SnrRow → Float) (rs : List SnrRow) (i : ℕ) → Option·map f (getElem? rs i) ≡ getElem? (map f rs) i
 column-at f [] i = refl
 column-at f (r ∷ rs) zero = refl
 column-at f (r ∷ rs) (suc i) = column-at f rs i
 
 module _ (steps row : ℕ) (at : row ≡ orPast (rowNumber steps)) where
-  pub ratio-there : (table : List Float) → row < 18 → table ≡ decibels → some (getD table row nan) ≡ snrOf steps
+  pub snr-there : (table : List Float) → row < 18 → table ≡ decibels → some (getD table row nan) ≡ snrOf steps
   unfolding rowNumber snrOf decibels
-  ratio-there table h e = go (rowNumber steps) refl
+  snr-there table h e = go (rowNumber steps) refl
     where
       go : (o : Option ℕ) → rowNumber steps ≡ o → some (getD table row nan) ≡ snrOf steps
       go none p = let z = at ∙ ap orPast p in absurd (omega arith)
       go (some i) p =
           let z : row ≡ i = at ∙ ap orPast p in
-          rw (e, z, p) (sym (column-at (λ r. r .db) ratios i ∙ there decibels i nan (omega arith)))
+          rw (e, z, p) (sym (column-at (λ r. r .db) tableC5 i ∙ there decibels i nan (omega arith)))
 
-  pub ratio-missing : 18 ≤ row → none ≡ snrOf steps
+  pub snr-missing : 18 ≤ row → none ≡ snrOf steps
   unfolding rowNumber snrOf
-  ratio-missing h = go (rowNumber steps) refl
+  snr-missing h = go (rowNumber steps) refl
     where
       go : (o : Option ℕ) → rowNumber steps ≡ o → none ≡ snrOf steps
       go none p = rw p
-      go (some i) p = let z : row ≡ i = at ∙ ap orPast p in rw (p, past ratios i (omega arith))
+      go (some i) p = let z : row ≡ i = at ∙ ap orPast p in rw (p, past tableC5 i (omega arith))

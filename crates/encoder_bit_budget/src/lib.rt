@@ -8,7 +8,7 @@ ghost use lib.ListN.{length, take};
 ghost use mathlib.Core.Option.{some};
 ghost use Rattle.bitalloc.specs.Tables.{sblimitOf};
 ghost use Rattle.bitalloc.specs.Select.{tableOf};
-ghost use Rattle.encoder_bit_budget.specs.Snr.{decibels, rowNumber, orPast, snrOf, snr, ratioIn};
+ghost use Rattle.encoder_bit_budget.specs.Snr.{decibels, rowNumber, orPast, snrOf, snr, snrIn};
 ghost use Rattle.encoder_bit_budget.specs.Budget.{errorNumber, plain, crcBits, allocationBits, fixedIn, layoutIn, budgetWith, budgetIn, availableIn, availableOf, BudgetIs};
 ghost use Rattle.encoder_bit_budget.specs.Demand.{smrsOf, most, neededSteps, demandIn, FirstStepIs, DemandIs};
 ghost use Rattle.encoder_bit_budget.specs.OnTheWay.{availableBy, NeededIs, FieldDemandIs, LayoutDemandIs, DemandInIs};
@@ -53,7 +53,7 @@ fn snr_row(nb_steps: u32) -> usize
 
 // The signal-to-noise ratio in dB of a number of steps; no steps have 0 dB.
 pub fn snr_db(nb_steps: u32) -> OptionF64
-    ensures { λ r. ⌜ ratioIn r ≡ snrOf «nb_steps» ⌝ }
+    ensures { λ r. ⌜ snrIn r ≡ snrOf «nb_steps» ⌝ }
 {
     let table = snr_table();
     snr_in(&table, nb_steps)
@@ -62,7 +62,7 @@ pub fn snr_db(nb_steps: u32) -> OptionF64
 // The same in the table that is lent.
 fn snr_in(table: &[f64; 18], nb_steps: u32) -> OptionF64
     requires { ⌜ now table ≡ decibels ⌝ }
-    ensures { λ r. ⌜ ratioIn r ≡ snrOf «nb_steps» ⌝ }
+    ensures { λ r. ⌜ snrIn r ≡ snrOf «nb_steps» ⌝ }
 {
     let row = snr_row(nb_steps);
     if row < 18 {
@@ -425,8 +425,8 @@ fn reaches(table: &[f64; 18], steps: u32, smr: f64) -> bool
     requires { ⌜ now table ≡ decibels ⌝ }
     ensures { λ r. ⌜ r ≡ le smr (snr steps) ⌝ }
 {
-    let ratio = snr_in(table, steps);
-    let OptionF64::Some(snr) = ratio else {
+    let found = snr_in(table, steps);
+    let OptionF64::Some(snr) = found else {
         return false;
     };
     smr <= snr

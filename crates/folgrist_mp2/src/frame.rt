@@ -14,6 +14,7 @@ use c_answers::arguments::HeaderGiven;
 use c_answers::parts;
 use crate::writing;
 use encoder_bit_budget::Budget;
+use layout::slots;
 
 // The allocation table that a header selects.
 #[no_mangle]
@@ -127,9 +128,7 @@ fn budget_values(budget: Budget) -> [u32; 8]
                 table.number(),
             ]
         }
-        Budget::NoBitallocTable => [0; 8],
-        Budget::ZeroSampleRate => [0; 8],
-        Budget::FrameTooLarge => [0; 8],
+        Budget::Refused(_) => [0; 8],
     }
 }
 
@@ -232,7 +231,7 @@ pub extern "C" fn folgrist_allocate_bits(
         HeaderGiven::Meant(header) => {
             let allocation = encoder_bit_allocator::allocate_bits(header, slots::rows(smr_db), banc);
             let nb_steps = parts::steps_by_slot(allocation);
-            let bits = parts::allocation_bits(allocation);
+            let bits = parts::allocation_values(allocation);
             writing::put(&nb_steps, steps);
             writing::put(&bits, out);
             allocation.number

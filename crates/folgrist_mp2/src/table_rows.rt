@@ -6,7 +6,7 @@ ghost use lib.ListN.{length};
 ghost use Rattle.bitalloc.specs.Classes.{SampleBitsAre};
 ghost use Rattle.c_answers.specs.Answers.{asked, answered, Answers};
 ghost use Rattle.c_answers.specs.Arguments.{tableMeant};
-ghost use Rattle.c_answers.specs.Replies.{limitsAt, stepsFound, indexFound, coefficients, classFigures, ratioFound};
+ghost use Rattle.c_answers.specs.Replies.{limitsAt, stepsFound, indexFound, coefficients, classFigures, snrFound};
 use c_answers::arguments;
 use c_answers::arguments::TableGiven;
 use c_answers::parts;
@@ -122,13 +122,13 @@ pub extern "C" fn folgrist_snr_db(steps: u32, out: &mut [f64]) -> u32
     ensures { λ r. ⌜ Answers
         (answered
           (asked (ltb (length (now (out .entry))) 1) (some steps))
-          ratioFound)
+          snrFound)
         (now (out .entry)) r (now (out .exit)) ⌝ }
 {
     if out.len() < 1 {
         return 98;
     }
     let found = encoder_bit_budget::snr_db(steps);
-    out[0] = parts::ratio_db(found);
-    parts::ratio_number(found)
+    out[0] = parts::snr_db(found);
+    parts::snr_number(found)
 }

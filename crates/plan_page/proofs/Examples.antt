@@ -2,7 +2,7 @@
 use mathlib.Core.Path.{_≡_, refl}
 use Rattle.tables.specs.Decimal.{decimal}
 use Rattle.encoder_samples.specs.Samples.{clamped}
-use Rattle.encoder_bit_budget.specs.Snr.{ratio, ratios, snrOf}
+use Rattle.encoder_bit_budget.specs.Snr.{snrRow, tableC5, snrOf}
 use lib.Ieee.{mul, sub, neg, lt}
 use Rattle.plan_text.specs.Quoted.{text}
 use Rattle.text_line.specs.Line.{aligned}
@@ -15,5 +15,5 @@ unfolding headingLine
 heading = refl
 
 slot : slotColumns (decimal 0 20) 127 ≡ text "     20.00    127     23.84 |"
-unfolding slotColumns aligned digitsOf decibelsText hundredthsOf clamped mul sub neg lt snrOf ratios ratio decimal
+unfolding slotColumns aligned digitsOf decibelsText hundredthsOf clamped mul sub neg lt snrOf tableC5 snrRow decimal
 slot = refl

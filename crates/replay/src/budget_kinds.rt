@@ -18,18 +18,18 @@ use replay_answers::same_numbers;
 use replay_answers::verdict_of;
 ghost use Prim.Native.Nat.{_≤_};
 
-// Steps -> found ratio.
+// Steps -> found signal-to-noise ratio.
 pub fn snr_db(count: usize, numbers: &[u64; 256]) -> Verdict {
     let OptionU32::Some(steps) = u32_of(numbers[1]) else {
         return Verdict::Unread;
     };
-    let answers = ratio_numbers(encoder_bit_budget::snr_db(steps));
+    let answers = snr_numbers(encoder_bit_budget::snr_db(steps));
     verdict_of(count == 4, same_numbers(numbers, 2, &answers))
 }
 
-fn ratio_numbers(found: OptionF64) -> [u64; 2] {
+fn snr_numbers(found: OptionF64) -> [u64; 2] {
     match found {
-        OptionF64::Some(ratio) => [1, bits_of(ratio)],
+        OptionF64::Some(db) => [1, bits_of(db)],
         OptionF64::None => [0, 0],
     }
 }

@@ -17,7 +17,7 @@ use Rattle.bitalloc.specs.declared.BitAllocTable.the-variants.{B2a, B2b, B2c}
 use Rattle.bitalloc.specs.Select.{tableOf}
 use Rattle.encoder_scalefactors.specs.Indices.{pickOf}
 use Rattle.encoder_scfsi.specs.Select.{selection}
-use Rattle.encoder_bit_budget.specs.Budget.{BudgetAnswer, budgetOf, fixedIn}
+use Rattle.encoder_bit_budget.specs.Budget.{plain, BudgetAnswer, budgetOf, fixedIn}
 use Rattle.encoder_bit_allocator.specs.declared.Allocation.{Allocation}
 use Rattle.encoder_bit_allocator.specs.Allocation.{allocationOf}
 
@@ -69,8 +69,8 @@ rowsOf smr any = smr
 unfoldable pub answerTo : List (List Float) → Question → Answer
 answerTo smr (table h) = selected (tableOf h)
 answerTo smr (bytes h) = sized (frameSize h .answer) (frameSize h .bytes)
-answerTo smr (budget h) = ofBudget (budgetOf h)
-answerTo smr (allocation h ratios banc) = ofAllocation (allocationOf h (rowsOf smr ratios) banc)
+answerTo smr (budget h) = ofBudget (budgetOf (plain h 0))
+answerTo smr (allocation h ratios banc) = ofAllocation (allocationOf (plain h banc) (rowsOf smr ratios))
 answerTo smr (used a b c) = indices (selection a b c .used)
 answerTo smr (index x) = indices (pickOf x ∷ [])
 

@@ -12,11 +12,11 @@ use Rattle.allocation_rounds.proofs.best.Statement.{statement}
 use Rattle.allocation_rounds.proofs.best.Tie as tie
 
 abbrev Inv-loop : tie.InvT-loop
-Inv-loop places closed fields tops ratios end found₀ field₀ found field =
-    (field ≤ end) × (end ≡ min fields 64) × ((charges : List ℕ) → found ≡ best (lent fields tops ratios charges) places closed field)
+Inv-loop places closed fields tops mnrs end found₀ field₀ found field =
+    (field ≤ end) × (end ≡ min fields 64) × ((charges : List ℕ) → found ≡ best (lent fields tops mnrs charges) places closed field)
 
 abbrev μ-loop : tie.MeasureT-loop
-μ-loop places closed fields tops ratios end found₀ field₀ found field = end - field
+μ-loop places closed fields tops mnrs end found₀ field₀ found field = end - field
 
 considered-requires : tie.Need-considered-requires Inv-loop μ-loop
 considered-requires c κs = search needs
@@ -27,8 +27,8 @@ loop-holds c = (search needs, c .considered .ensures, λ charges. refl)
 is-waiting-requires : tie.Need-is-waiting-requires Inv-loop μ-loop
 is-waiting-requires c κs = search needs
 
-ratio-of-requires : tie.Need-ratio-of-requires Inv-loop μ-loop
-ratio-of-requires c κs =
+mnr-of-requires : tie.Need-mnr-of-requires Inv-loop μ-loop
+mnr-of-requires c κs =
     let w = c .before in
     let l = w .before .before in
     let a = l .before .before .args in
@@ -54,9 +54,9 @@ loop-again c =
       inv .1,
       λ charges.
           ⊎-elim
-          (λ w. best-met (lent (a .fields) (a .tops .now) (a .ratios .now) charges) (a .places .now) (a .closed .now) (l .loop .field) _ e
+          (λ w. best-met (lent (a .fields) (a .tops .now) (a .mnrs .now) charges) (a .places .now) (a .closed .now) (l .loop .field) _ e
           _ (inv .2 charges) _ _ (w .0 .taken) (w .1 .ensures) _ (w .2 .ensures) (w .3))
-          (λ w. best-over (lent (a .fields) (a .tops .now) (a .ratios .now) charges) (a .places .now) (a .closed .now) (l .loop .field) _ e
+          (λ w. best-over (lent (a .fields) (a .tops .now) (a .mnrs .now) charges) (a .places .now) (a .closed .now) (l .loop .field) _ e
           _ (inv .2 charges) _ (w .0 .left) (w .1))
           (c .if1 .came),
     )
@@ -75,7 +75,7 @@ best-spec =
     considered-requires
     loop-holds
     is-waiting-requires
-    ratio-of-requires
+    mnr-of-requires
     consider-requires
     add-field
     loop-less

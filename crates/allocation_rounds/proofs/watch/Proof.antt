@@ -14,8 +14,8 @@ is-waiting-requires c κs = search needs
 element-write-waiting : tie.Need-element-write-waiting
 element-write-waiting c = search needs
 
-ratio-of-requires : tie.Need-ratio-of-requires
-ratio-of-requires c κs =
+mnr-of-requires : tie.Need-mnr-of-requires
+mnr-of-requires c κs =
     let w = c .before in
     let a = w .before .args in
     let low = met-low (lent 64 (a .tops .now) [] []) (a .places .now) (a .closed .now) (a .field) _ (w .is-waiting .ensures) (c .if1 .taken) in
@@ -31,7 +31,7 @@ returns : tie.Need-returns
 returns c =
     let w = c .before .before in
     let p = w .before .pre in
-    rewatched-met _ _ _ _ _ _ (rw (p .1) (p .0)) _ (w .is-waiting .ensures) (rw (p .2) (p .0)) _ (c .ratio-of .ensures)
+    rewatched-met _ _ _ _ _ _ (rw (p .1) (p .0)) _ (w .is-waiting .ensures) (rw (p .2) (p .0)) _ (c .mnr-of .ensures)
 
 returns-2 : tie.Need-returns-2
 returns-2 c =
@@ -45,7 +45,7 @@ watch-spec =
     (tie.spec
     is-waiting-requires
     element-write-waiting
-    ratio-of-requires
+    mnr-of-requires
     mul-present
     element-write-present
     returns

@@ -9,11 +9,11 @@ use Rattle.allocation_rounds.proofs.watch_all.Statement.{statement}
 use Rattle.allocation_rounds.proofs.watch_all.Tie as tie
 
 abbrev Inv-loop : tie.InvT-loop
-Inv-loop places closed tops ratios end waiting₀ present₀ field₀ waiting present field =
-    (field ≤ end) × Watched (watching tops ratios) places closed field waiting present
+Inv-loop places closed tops mnrs end waiting₀ present₀ field₀ waiting present field =
+    (field ≤ end) × Watched (watching tops mnrs) places closed field waiting present
 
 abbrev μ-loop : tie.MeasureT-loop
-μ-loop places closed tops ratios end waiting₀ present₀ field₀ waiting present field = end - field
+μ-loop places closed tops mnrs end waiting₀ present₀ field₀ waiting present field = end - field
 
 loop-holds : tie.Need-loop-holds Inv-loop μ-loop
 loop-holds c = (search needs, none-watched _ _ _ _ _ (c .pre .1) (c .pre .2))
@@ -40,7 +40,7 @@ returns c =
     let l = c .before .loop in
     let a = c .before .before .args in
     let e : l .field ≡ a .end = (let h = l .inv .0 in let t = c .loop-test .left in omega arith) in
-    subst (λ (n : ℕ). Watched (watching (a .tops .now) (a .ratios .now)) (a .places .now) (a .closed .now) n (l .waiting) (l .present)) e (l .inv .1)
+    subst (λ (n : ℕ). Watched (watching (a .tops .now) (a .mnrs .now)) (a .places .now) (a .closed .now) n (l .waiting) (l .present)) e (l .inv .1)
 
 pub watch-all-spec : {M : Type 1} → statement M
 watch-all-spec = tie.close (tie.spec Inv-loop μ-loop loop-holds watch-requires add-field loop-less loop-again returns)

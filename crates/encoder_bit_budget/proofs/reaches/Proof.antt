@@ -2,7 +2,7 @@
 use borrow.Author.Needs.{needs}
 use mathlib.Core.Path.{sym, ap, _∙_}
 use lib.Ieee.{le}
-use Rattle.encoder_bit_budget.specs.Snr.{orNan, ratioIn}
+use Rattle.encoder_bit_budget.specs.Snr.{orNan, snrIn}
 use Rattle.encoder_bit_budget.proofs.SnrLaws.{no-reach}
 use Rattle.encoder_bit_budget.proofs.reaches.Statement.{statement}
 use Rattle.encoder_bit_budget.proofs.reaches.Tie as tie
@@ -10,8 +10,8 @@ use Rattle.encoder_bit_budget.proofs.reaches.Tie as tie
 snr-in-requires : tie.Need-snr-in-requires
 snr-in-requires c κs = search needs
 
-enum-known-ratio : tie.Need-enum-known-ratio
-enum-known-ratio c = search needs
+enum-known-found : tie.Need-enum-known-found
+enum-known-found c = search needs
 
 enum-told : tie.Need-enum-told
 enum-told c = search needs
@@ -19,13 +19,13 @@ enum-told c = search needs
 returns : tie.Need-returns
 returns c =
     let smr = c .before .before .before .args .smr in
-    let e = sym (c .before .before .snr-in .ensures) ∙ ap ratioIn (c .enum-told .given .1) in
+    let e = sym (c .before .before .snr-in .ensures) ∙ ap snrIn (c .enum-told .given .1) in
     sym (ap (λ o. le smr (orNan o)) e ∙ no-reach smr)
 
 returns-2 : tie.Need-returns-2
 returns-2 c =
     let smr = c .before .before .before .before .args .smr in
-    ap (λ o. le smr (orNan o)) (sym (sym (c .before .before .before .snr-in .ensures) ∙ ap ratioIn (c .before .ratio .given .1)))
+    ap (λ o. le smr (orNan o)) (sym (sym (c .before .before .before .snr-in .ensures) ∙ ap snrIn (c .before .found .given .1)))
 
 pub reaches-spec : {M : Type 1} → statement M
-reaches-spec = tie.close (tie.spec snr-in-requires enum-known-ratio enum-told returns returns-2)
+reaches-spec = tie.close (tie.spec snr-in-requires enum-known-found enum-told returns returns-2)

@@ -3,7 +3,7 @@ use mathlib.Core.Path.{_≡_, refl, ap₂}
 use mathlib.Core.List.{List, _∷_, _++_}
 use Prim.Native.Nat.{ℕ, _<_}
 use lib.Dec.{ltb, ltb→lt}
-use lib.Ieee.{Float, le, lt, sub}
+use lib.Ieee.{Float, le, sub}
 use lib.ListN.{take, drop}
 use Rattle.tables.proofs.Rule.{below}
 use Rattle.header.specs.Header.{frameSize}
@@ -13,15 +13,16 @@ use Rattle.tables.specs.Search.{oneOf}
 use Rattle.bitalloc.specs.Tables.{nbalOf, rowOf}
 use Rattle.bitalloc.specs.Classes.{sampleBits}
 use Rattle.bitalloc.specs.Select.{tableOf}
+use Rattle.layout.specs.declared.Layout.{Layout}
+use Rattle.layout.specs.Layout.{layoutOf, fieldsOf}
 use Rattle.audio_data.specs.Record.{filler}
 use Rattle.encoder_scalefactors.specs.Indices.{pickOf}
 use Rattle.encoder_scfsi.specs.Select.{selection}
 use Rattle.encoder_bit_budget.specs.Snr.{snrOf}
-use Rattle.encoder_bit_budget.specs.Layout.{fieldsOf}
 use Rattle.encoder_bit_budget.specs.Budget.{budgetOf}
 use Rattle.allocation_rounds.specs.Rounds.{Rules, price, ended}
 use Rattle.allocation_rounds.proofs.OnTheWay.{end-untouched}
-use Rattle.encoder_bit_allocator.specs.Entries.{rulesOf, entriesOf}
+use Rattle.encoder_bit_allocator.specs.Entries.{rulesOf, entriesOf, worstCase}
 use Rattle.encoder_bit_allocator.specs.Allocation.{stepsOf, allocationOf}
 use Rattle.worked_cases.specs.Cases.{cases, any, allocation, allocated, mono, idle, answerTo, Hold}
 use Rattle.worked_cases.proofs.count.Statement.{statement}
@@ -29,31 +30,35 @@ use Rattle.worked_cases.proofs.count.Tie as tie
 
 -- ---- a frame that the fixed and the ancillary bits fill
 
+-- where its fields are
+abbrev laid : Layout
+laid = layoutOf mono B2c
+
 -- what the rounds go by
 abbrev rules : List (List Float) → Rules
-rules smr = rulesOf (entriesOf mono B2c smr)
+rules smr = rulesOf (entriesOf laid smr (worstCase laid))
 
 -- every first step has a price, whatever the ratios
 dear : (smr : List (List Float)) (f : ℕ) → f < rules smr .fields → 0 < price (rules smr) f 0
-unfolding rulesOf entriesOf fieldsOf rowOf sampleBits
+unfolding rulesOf entriesOf worstCase layoutOf fieldsOf rowOf sampleBits
 dear smr f h = ltb→lt 0 _ (below 8 (λ f. ltb 0 (price (rules smr) f 0)) tt f h)
 
 -- so that nothing is bought
 filled : (smr : List (List Float)) → answerTo smr (allocation mono any 694) ≡ allocated 0 (idle 64) 0 0 0 0
-unfolding answerTo oneOf tableOf nbalOf rowOf sampleBits fieldsOf budgetOf allocationOf
+unfolding answerTo oneOf tableOf nbalOf rowOf layoutOf fieldsOf budgetOf allocationOf
 filled smr =
     let n = end-untouched (rules smr) 0 (dear smr) in
-    ap₂ (λ (places : List ℕ) (left : ℕ). allocated 0 (stepsOf (fieldsOf mono B2c) B2c places) left 0 0 0) (n .0) (n .1)
+    ap₂ (λ (places : List ℕ) (left : ℕ). allocated 0 (stepsOf laid places) left 0 0 0) (n .0) (n .1)
 
 -- ---- the table
 
 -- the cases before and behind it: antt computes the answers
 first-case : Hold (take 1 cases)
-unfolding cases Hold answerTo oneOf tableOf nbalOf fieldsOf budgetOf
+unfolding cases Hold answerTo oneOf tableOf nbalOf layoutOf fieldsOf budgetOf
 first-case smr = refl
 
 other-cases : Hold (drop 2 cases)
-unfolding cases Hold answerTo ended oneOf tableOf nbalOf rowOf sampleBits snrOf fieldsOf budgetOf frameSize filler allocationOf selection scalefactors pickOf le lt sub
+unfolding cases Hold answerTo ended oneOf tableOf nbalOf rowOf sampleBits snrOf layoutOf fieldsOf budgetOf frameSize filler allocationOf selection scalefactors pickOf le sub
 other-cases smr = refl
 
 holds : Hold cases

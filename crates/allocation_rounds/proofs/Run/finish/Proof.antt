@@ -16,12 +16,12 @@ use Rattle.allocation_rounds.proofs.Run.finish.Statement.{statement}
 use Rattle.allocation_rounds.proofs.Run.finish.Tie as tie
 
 abbrev Inv-loop : tie.InvT-loop
-Inv-loop fields tops ratios charges run₀ end waiting₀ present₀ run waiting present =
-    (length (run .places) ≡ 64) × (ended (lent fields tops ratios charges) run ≡ ended (lent fields tops ratios charges) run₀)
-    × Watched (watching tops ratios) (run .places) (run .closed) end waiting present
+Inv-loop fields tops mnrs charges run₀ end waiting₀ present₀ run waiting present =
+    (length (run .places) ≡ 64) × (ended (lent fields tops mnrs charges) run ≡ ended (lent fields tops mnrs charges) run₀)
+    × Watched (watching tops mnrs) (run .places) (run .closed) end waiting present
 
 abbrev μ-loop : tie.MeasureT-loop
-μ-loop fields tops ratios charges run₀ end waiting₀ present₀ run waiting present = roomIn (lent fields tops ratios charges) run
+μ-loop fields tops mnrs charges run₀ end waiting₀ present₀ run waiting present = roomIn (lent fields tops mnrs charges) run
 
 -- the places that the needs look back to: the start, the fields counted, the loop's head, the search, the candidate told, its turn taken
 abbrev at-considered : tie.After-present Inv-loop μ-loop → tie.After-considered Inv-loop μ-loop
@@ -68,7 +68,7 @@ enum-told c = search needs
 
 -- what was found is the state's candidate
 found-best : (c : tie.After-candidate-among Inv-loop μ-loop) → let head = at-head c in let args = at-start head .args in
-    BestIs (head .loop .run .places) (head .loop .run .closed) (args .fields) (args .tops .now) (args .ratios .now) (c .candidate-among .result)
+    BestIs (head .loop .run .places) (head .loop .run .closed) (args .fields) (args .tops .now) (args .mnrs .now) (c .candidate-among .result)
 found-best c =
     let head = at-head c in
     scan-best _ _ _ _ _ (head .loop .waiting) (head .loop .present) _ _ (at-considered (head .before .before) .considered .ensures)
@@ -81,7 +81,7 @@ returns c =
     let start = at-start head in
     let args = start .args in
     let inv = head .loop .inv in
-    loop-over (args .fields) (args .tops .now) (args .ratios .now) (args .charges .now) (head .loop .run) (inv .0)
+    loop-over (args .fields) (args .tops .now) (args .mnrs .now) (args .charges .now) (head .loop .run) (inv .0)
     (searched .candidate-among .result) (found-best searched) (args .self) (long start) (inv .1) (c .enum-told .given .1)
 
 inside : (c : tie.After-known-told Inv-loop μ-loop) → (c .before .found .given .0 .0 < 64)
@@ -110,7 +110,7 @@ loop-less c =
     let searched = at-search told in
     let head = at-head searched in
     let args = at-start head .args in
-    loop-falls (args .fields) (args .tops .now) (args .ratios .now) (args .charges .now) (head .loop .run) (head .loop .inv .0)
+    loop-falls (args .fields) (args .tops .now) (args .mnrs .now) (args .charges .now) (head .loop .run) (head .loop .inv .0)
     (searched .candidate-among .result) (found-best searched) (found .0 .0) (found .0 .1 .0) (found .1)
     (taken .before .price-of .result) (taken .before .price-of .ensures) _ (taken .taken .ensures)
 
@@ -124,7 +124,7 @@ loop-again c =
     let args = at-start head .args in
     let inv = head .loop .inv in
     let same =
-        loop-same (args .fields) (args .tops .now) (args .ratios .now) (args .charges .now) (head .loop .run) (inv .0)
+        loop-same (args .fields) (args .tops .now) (args .mnrs .now) (args .charges .now) (head .loop .run) (inv .0)
         (searched .candidate-among .result) (found-best searched) (found .0 .0) (found .0 .1 .0) (found .1)
         (taken .before .price-of .result) (taken .before .price-of .ensures) _ (taken .taken .ensures) (args .self) (inv .1) in
     (same .0, same .1, taken-watched _ (head .loop .run) _ _ _ _ _ _ _ _ (taken .taken .ensures) (inv .2) (c .watch .ensures))

@@ -1,4 +1,4 @@
--- `folgrist_mp2::frame::budget_values` meets its contract: the cases of the budget, one by one.
+-- `folgrist_mp2::frame::budget_values` meets its contract: an accepted budget, or zeros.
 use native.Mathlib.Omega.{arith}
 use borrow.Author.Needs.{needs}
 use Rattle.folgrist_mp2.proofs.frame.budget_values.Statement.{statement}
@@ -35,12 +35,6 @@ number-requires c κs = search needs
 enum-told : tie.Need-enum-told
 enum-told c = search needs
 
-enum-told-2 : tie.Need-enum-told-2
-enum-told-2 c = search needs
-
-enum-told-3 : tie.Need-enum-told-3
-enum-told-3 c = search needs
-
 returns : tie.Need-returns
 returns c =
     let told = at-budget (c .before .before .before) in
@@ -49,25 +43,6 @@ returns c =
 returns-2 : tie.Need-returns-2
 returns-2 c = rw (c .enum-told .given .1)
 
-returns-3 : tie.Need-returns-3
-returns-3 c = rw (c .enum-told2 .given .1)
-
-returns-4 : tie.Need-returns-4
-returns-4 c = rw (c .enum-told3 .given .1)
-
 pub budget-values-spec : {M : Type 1} → statement M
 budget-values-spec =
-    tie.close
-    (tie.spec
-    enum-known-budget
-    cast-t5
-    cast-t6
-    cast-t7
-    number-requires
-    enum-told
-    enum-told-2
-    enum-told-3
-    returns
-    returns-2
-    returns-3
-    returns-4)
+    tie.close (tie.spec enum-known-budget cast-t5 cast-t6 cast-t7 number-requires enum-told returns returns-2)

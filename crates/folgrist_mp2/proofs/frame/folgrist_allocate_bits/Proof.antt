@@ -5,9 +5,10 @@ use lib.ListN.{length}
 use borrow.Author.Needs.{needs}
 use Rattle.c_answers.proofs.AnswerLaws.{room, three-long, refused-by, meant-by}
 use Rattle.c_answers.proofs.ArgumentLaws.{header-refused, header-meant}
+use Rattle.encoder_bit_budget.specs.Budget.{plain}
 use Rattle.encoder_bit_allocator.specs.Allocation.{allocationOf}
 use Rattle.c_answers.specs.Answers.{reply}
-use Rattle.c_answers.specs.Replies.{allocationBits}
+use Rattle.c_answers.specs.Replies.{allocationValues}
 use Rattle.folgrist_mp2.proofs.frame.folgrist_allocate_bits.Statement.{statement}
 use Rattle.folgrist_mp2.proofs.frame.folgrist_allocate_bits.Tie as tie
 
@@ -15,10 +16,10 @@ use Rattle.folgrist_mp2.proofs.frame.folgrist_allocate_bits.Tie as tie
 abbrev at-start : tie.After-known-told2 → tie.Start
 at-start told = told .before .before .before .before .before .before .before
 
-abbrev at-told : tie.After-allocation-bits → tie.After-known-told2
+abbrev at-told : tie.After-allocation-values → tie.After-known-told2
 at-told bits = bits .before .before .before .before
 
-abbrev at-bits : tie.After-put-arg → tie.After-allocation-bits
+abbrev at-bits : tie.After-put-arg → tie.After-allocation-values
 at-bits c = c .before .before
 
 abbrev at-put : tie.After-put-arg2 → tie.After-put
@@ -42,8 +43,8 @@ allocate-bits-requires c κs = search needs
 steps-by-slot-requires : tie.Need-steps-by-slot-requires
 steps-by-slot-requires c κs = search needs
 
-allocation-bits-requires : tie.Need-allocation-bits-requires
-allocation-bits-requires c κs = search needs
+allocation-values-requires : tie.Need-allocation-values-requires
+allocation-values-requires c κs = search needs
 
 slice-aggregate-put : tie.Need-slice-aggregate-put
 slice-aggregate-put c = search needs
@@ -67,7 +68,7 @@ put-requires-2 c κs =
     let told = at-told bits in
     let args = at-start told .args in
     let meant = header-meant _ _ _ (told .before .before .before .header-given .ensures) (told .before .given2 .given .1) in
-    rw (bits .allocation-bits .ensures)
+    rw (bits .allocation-values .ensures)
     (three-long (length (args .smr-db .now)) 64 (length (args .steps .now)) 64 (length (args .out .now)) 4 (room _ _ _ meant) .2)
 
 returns : tie.Need-returns
@@ -93,14 +94,14 @@ returns-2 c =
     let replied = reply (allocated .allocate-bits .result .number) in
     let whole =
         allocated .allocate-bits .ensures .whole
-        ∙ ap (λ smr. allocationOf header smr (at-start told .args .banc)) (allocated .before .rows .ensures) in
+        ∙ ap (allocationOf (plain header (at-start told .args .banc))) (allocated .before .rows .ensures) in
     let meant = header-meant _ _ _ (told .before .before .before .header-given .ensures) (told .before .given2 .given .1) in
     (
       meant-by _ _ _ _ _ (steps .steps-by-slot .result) _ meant
       (ap replied (steps .steps-by-slot .ensures) ∙ ap (λ x. reply (x .number) (x .audio .«nb_steps»)) whole)
       (first .put .ensures),
-      meant-by _ _ _ _ _ (bits .allocation-bits .result) _ meant
-      (ap replied (bits .allocation-bits .ensures) ∙ ap (λ x. reply (x .number) (allocationBits x)) whole)
+      meant-by _ _ _ _ _ (bits .allocation-values .result) _ meant
+      (ap replied (bits .allocation-values .ensures) ∙ ap (λ x. reply (x .number) (allocationValues x)) whole)
       (second .put2 .ensures)
     )
 
@@ -114,7 +115,7 @@ folgrist-allocate-bits-spec =
     rows-requires
     allocate-bits-requires
     steps-by-slot-requires
-    allocation-bits-requires
+    allocation-values-requires
     slice-aggregate-put
     put-requires
     slice-aggregate-put-2

@@ -1,13 +1,10 @@
 -- `folgrist_mp2::frame::folgrist_select_table` meets its contract: the reply is the table that `select_table` finds.
 use borrow.Author.Tests.{ltb-false}
-use mathlib.Core.Path.{ap}
 use mathlib.Core.List.{[], _∷_}
 use borrow.Author.Needs.{needs}
-use Rattle.c_answers.proofs.AnswerLaws.{room, refused-by, one-by}
+use Rattle.c_answers.proofs.AnswerLaws.{room, refused-by, one-by, found-or}
 use Rattle.c_answers.proofs.ArgumentLaws.{header-refused, header-meant}
-use Rattle.header.specs.Questions.{number}
-use Rattle.c_answers.specs.Answers.{reply}
-use Rattle.c_answers.specs.Replies.{tableFound, tableOr}
+use Rattle.c_answers.specs.Replies.{tableOr}
 use Rattle.folgrist_mp2.proofs.frame.folgrist_select_table.Statement.{statement}
 use Rattle.folgrist_mp2.proofs.frame.folgrist_select_table.Tie as tie
 
@@ -42,11 +39,12 @@ same-length c = search needs
 
 returns-2 : tie.Need-returns-2
 returns-2 c =
-    let k = c .before .before .before in
-    one-by _ _ _ _ _ _ (header-meant _ _ _ (k .before .before .before .header-given .ensures) (k .before .given2 .given .1))
-    (rw (c .selected-number .ensures, c .before .selected-table .ensures)
-    (ap (λ o. reply (number (tableFound o ∷ [])) (tableOr o ∷ [])) (c .before .before .select-table .ensures)))
-    (ltb-false _ _ (room _ _ _ (header-meant _ _ _ (k .before .before .before .header-given .ensures) (k .before .given2 .given .1))))
+    let s = c .before .before in
+    let k = s .before in
+    let m = header-meant _ _ _ (k .before .before .before .header-given .ensures) (k .before .given2 .given .1) in
+    one-by _ _ _ _ _ _ m
+    (rw (c .selected-number .ensures, c .before .selected-table .ensures) (found-or _ _ 1 (λ o. tableOr o ∷ []) (s .select-table .ensures)))
+    (ltb-false _ _ (room _ _ _ m))
 
 pub folgrist-select-table-spec : {M : Type 1} → statement M
 folgrist-select-table-spec =

@@ -1,13 +1,10 @@
 -- `folgrist_mp2::table_rows::folgrist_class_of_quantization` meets its contract: the reply is the class that is found.
-use mathlib.Core.Path.{ap}
 use mathlib.Core.List.{[], _∷_}
 use native.Mathlib.Omega.{arith}
 use lib.ListN.{length, length-set}
 use borrow.Author.Needs.{needs}
-use Rattle.c_answers.proofs.AnswerLaws.{both-long, two-written, too-short, long-enough, refused-by, meant-by}
-use Rattle.header.specs.Questions.{number}
-use Rattle.c_answers.specs.Answers.{reply}
-use Rattle.c_answers.specs.Replies.{classFound, classOr, figuresOf}
+use Rattle.c_answers.proofs.AnswerLaws.{both-long, two-written, too-short, long-enough, refused-by, meant-by, found-or}
+use Rattle.c_answers.specs.Replies.{classOr, figuresOf}
 use Rattle.folgrist_mp2.proofs.table_rows.folgrist_class_of_quantization.Statement.{statement}
 use Rattle.folgrist_mp2.proofs.table_rows.folgrist_class_of_quantization.Tie as tie
 
@@ -73,10 +70,10 @@ returns-2 c =
     (
       meant-by _ _ _ _ (c .class-number .result) (e .coefficient-c .result ∷ d .coefficient-d .result ∷ []) _ m
       (rw (c .class-number .ensures, e .coefficient-c .ensures, d .coefficient-d .ensures)
-      (ap (λ o. reply (number (classFound o ∷ [])) (classOr o .c ∷ classOr o .d ∷ [])) found))
+      (found-or _ _ 5 (λ o. classOr o .c ∷ classOr o .d ∷ []) found))
       (two-written (s .args .cd .now) _ _ (both-long (length (s .args .cd .now)) 2 (length (s .args .out .now)) 4 (i .if1 .left) .0)),
       meant-by _ _ _ _ (c .class-number .result) (f .figures .result) _ m
-      (rw (c .class-number .ensures, f .figures .ensures) (ap (λ o. reply (number (classFound o ∷ [])) (figuresOf (classOr o))) found))
+      (rw (c .class-number .ensures, f .figures .ensures) (found-or _ _ 5 (λ o. figuresOf (classOr o)) found))
       (p .put .ensures)
     )
 
