@@ -15,7 +15,7 @@ use Rattle.tables.specs.Sum.{sumBelow}
 use Rattle.allocation_rounds.specs.declared.Candidate.{Candidate}
 use Rattle.allocation_rounds.specs.declared.Candidate.the-variants.{Nobody, Field}
 use Rattle.allocation_rounds.specs.declared.Run.{Run}
-use Rattle.allocation_rounds.specs.Rounds.{Rules, price, placeIn, closedIn, waits, candidate, closeAt, raiseAt, taken, turn, round, repeated, rounds, room, ended}
+use Rattle.allocation_rounds.specs.Rounds.{Rules, price, placeIn, closedIn, waits, candidate, closeAt, raisedBy, taken, turn, round, repeated, rounds, room, ended}
 use Rattle.allocation_rounds.specs.Promises.{Over}
 use Rattle.allocation_rounds.proofs.Fields.{one-differs}
 use Rattle.allocation_rounds.proofs.Scan.{PickedIn, picked-open, candidate-is, nobody}
@@ -25,6 +25,10 @@ use Rattle.allocation_rounds.proofs.Scan.{PickedIn, picked-open, candid
 -- the price of a field's next step in a state
 abbrev pub cost : Rules → Run → ℕ → ℕ
 cost R s f = price R f (placeIn (s .places) f)
+
+-- the field raised at that price
+abbrev pub raiseAt : Rules → ℕ → Run → Run
+raiseAt R f s = raisedBy f (cost R s f) s
 
 by-cost : (R : Rules) (f : ℕ) (s : Run) (P : Run → Type 0) → (cost R s f ≤ s .left → P (raiseAt R f s))
     → (s .left < cost R s f → P (closeAt f s)) → P (taken R f s)
@@ -196,13 +200,6 @@ module _ (R : Rules) where
           let l = taken-falls s f r fit e in
           let n = taken-length s f .0 in
           sym (settled (roomIn R (taken R f s)) (taken R f s) (omega arith) (omega arith) .1 k (omega arith)) ∙ sym (rounds-on k s f r e)
-
-  pub ended-length : (s : Run)
-      → (length (ended R s .places) ≡ length (s .places)) × (length (ended R s .closed) ≡ length (s .closed))
-  unfolding ended
-  ended-length s =
-      along (λ t. (length (t .places) ≡ length (s .places)) × (length (t .closed) ≡ length (s .closed)))
-      (λ t f r e p. (taken-length t f .0 ∙ p .0, taken-length t f .1 ∙ p .1)) (roomIn R s) s (refl, refl)
 
   -- ---- a round is the candidate's turn
 

@@ -8,12 +8,12 @@ use native.Mathlib.Omega.{arith}
 use lib.Dec.{T}
 use lib.Ieee.{Float, lt, le, isNan}
 use Rattle.allocation_rounds.specs.declared.Run.{Run}
-use Rattle.allocation_rounds.specs.Rounds.{Rules, price, placeIn, closedIn, waits, raiseAt, closeAt, round, ended, started}
+use Rattle.allocation_rounds.specs.Rounds.{Rules, price, placeIn, closedIn, waits, closeAt, round, ended, started}
 use Rattle.allocation_rounds.specs.Promises.{Counting, Rising, Exchanged}
 use Rattle.allocation_rounds.proofs.Fields.{either}
 use Rattle.allocation_rounds.proofs.Order.{Order, not-both, below-trans}
 use Rattle.allocation_rounds.proofs.Scan.{PickedIn, picked-open, picked-least, closed-below}
-use Rattle.allocation_rounds.proofs.Ending.{cost, raise-here, raise-else, close-here, close-else, round-keeps, ended-keeps}
+use Rattle.allocation_rounds.proofs.Ending.{cost, raiseAt, raise-here, raise-else, close-here, close-else, round-keeps, ended-keeps}
 use Rattle.allocation_rounds.proofs.OnTheWay.{OnTheWay, zeros, way-start, way-raised, way-closed}
 
 -- The rule for fields f and g at places p and q: where g's ratio is below f's before its last step, g is closed, and giving that step up

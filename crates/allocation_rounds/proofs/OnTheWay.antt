@@ -9,11 +9,11 @@ use lib.Ieee.{Float}
 use lib.ListN.{length, replicate, length-set, getD-replicate}
 use Rattle.tables.specs.Sum.{sumBelow}
 use Rattle.allocation_rounds.specs.declared.Run.{Run}
-use Rattle.allocation_rounds.specs.Rounds.{Rules, price, placeIn, closedIn, raiseAt, closeAt, round, ended, started}
+use Rattle.allocation_rounds.specs.Rounds.{Rules, price, placeIn, closedIn, closeAt, round, ended, started}
 use Rattle.allocation_rounds.specs.Promises.{charged, Counting, Over, Accounted, Spent}
 use Rattle.allocation_rounds.proofs.Fields.{either, one-differs}
 use Rattle.allocation_rounds.proofs.Scan.{PickedIn, picked-open, closed-below}
-use Rattle.allocation_rounds.proofs.Ending.{cost, raise-here, raise-else, close-else, over, round-keeps, ended-keeps}
+use Rattle.allocation_rounds.proofs.Ending.{cost, raiseAt, raise-here, raise-else, close-else, over, round-keeps, ended-keeps}
 
 -- ---- charges
 
@@ -98,10 +98,6 @@ module _ (R : Rules) (C : Counting R) (offered : ℕ) where
   pub way-ended : (s : Run) → OnTheWay R offered s → OnTheWay R offered (ended R s)
   way-ended = ended-keeps R (OnTheWay R offered) way-raised way-closed
 
-  -- no more is left than was offered
-  pub left-small : (s : Run) → OnTheWay R offered s → s .left ≤ offered
-  left-small s way = let a = way .account in omega arith
-
   -- where nobody waits, a field below its top is closed, and too dear
   pub spent : (s : Run) → OnTheWay R offered s → Over R s → Spent R (s .places) (s .left)
   spent s way done f l h = way .dear f l (closed-below R (s .places) (s .closed) f (done f l) h) h
@@ -113,15 +109,6 @@ module _ (R : Rules) (C : Counting R) (offered : ℕ) where
 
   pub end-over : Over R (ended R (started offered))
   end-over = over R (started offered) (C .few)
-
-  pub end-accounted : Accounted R offered (ended R (started offered) .places) (ended R (started offered) .left)
-  end-accounted = end-way .account
-
-  pub end-within : (f : ℕ) → f < R .fields → placeIn (ended R (started offered) .places) f ≤ R .top f
-  end-within = end-way .within
-
-  pub end-left : ended R (started offered) .left ≤ offered
-  end-left = left-small (ended R (started offered)) end-way
 
   pub end-spent : Spent R (ended R (started offered) .places) (ended R (started offered) .left)
   end-spent = spent (ended R (started offered)) end-way end-over

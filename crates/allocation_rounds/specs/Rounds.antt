@@ -69,10 +69,7 @@ raisedBy f cost s = record {
 abbrev pub takenBy : ℕ → ℕ → Run → Run
 takenBy f cost s = cond (leb cost (s .left)) (raisedBy f cost s) (closeAt f s)
 
--- both at the price by the rules
-abbrev pub raiseAt : Rules → ℕ → Run → Run
-raiseAt R f s = raisedBy f (price R f (placeIn (s .places) f)) s
-
+-- its turn at the price by the rules
 abbrev pub taken : Rules → ℕ → Run → Run
 taken R f s = takenBy f (price R f (placeIn (s .places) f)) s
 

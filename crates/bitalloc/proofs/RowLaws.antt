@@ -109,9 +109,6 @@ module _ (P : ℕ → List ℕ → Type 0) (kept : (n : ℕ) (row : List ℕ) �
           let l : sblimitOf t ≤ sb = omega arith in
           rw (no-field t sb l, no-row t sb l) no-place
 
-pub nbal-small : (t : BitAllocTable) (sb : ℕ) → nbalOf t sb ≤ 4
-nbal-small = everywhere (λ n row. n ≤ 4) (λ n row r. r .most) (lit≤ tt)
-
 -- how many places a row has: none without a field
 abbrev pub placesFor : ℕ → ℕ
 placesFor n = cond (eqb n 0) 0 (2 ^ n)

@@ -1,4 +1,4 @@
--- The magnitude: a NaN only of a NaN, 0 at least otherwise, and found by comparison with zero.
+-- The magnitude: a NaN only of a NaN, and found by comparison with zero.
 use mathlib.Core.Path.{_≡_, refl}
 use mathlib.Core.Bool.{Bool, true, false, _||_, Bool·beq, true≢false}
 use Prim.Native.Nat.{ℕ, zero, suc, _*_, _^_}
@@ -11,19 +11,12 @@ use lib.Ieee.{Float, nan, inf, fin, binary64, up, down, neg, lt, eq, le, fits, i
 use lib.Ieee.Fits.{and-l, up-pos}
 use Rattle.ieee_order.specs.Order.{absOf}
 use Rattle.ieee_order.proofs.Fraction.{lt→less, most→le}
-use Rattle.ieee_order.proofs.Order.{le-inf}
 
 pub abs-nan : (x : Float) → isNan (absOf x) ≡ isNan x
 unfolding absOf isNan
 abs-nan nan = refl
 abs-nan (inf s) = refl
 abs-nan (fin s m e) = refl
-
-pub abs-above : (x : Float) → isNan x ≡ false → T (le (fin false 0 (pos 0)) (absOf x))
-unfolding absOf isNan
-abs-above nan p = absurd (true≢false p)
-abs-above (inf s) p = le-inf (fin false 0 (pos 0)) refl
-abs-above (fin s m e) p = most→le (fin false 0 (pos 0)) (fin false m e) tt tt (omega arith)
 
 -- ---- the three answers of the code: below zero, equal to it, and the rest
 

@@ -1,7 +1,7 @@
 -- The order of binary64: `le` and `lt` on numbers, that is off NaN. Finite values go by their fractions, infinities by clauses.
 use mathlib.Core.Path.{_≡_, refl, sym, _∙_, subst}
 use mathlib.Core.Bool.{Bool, true, false, not, _&&_, true≢false, false≢true}
-use mathlib.Core.Logic.{_⊎_, inl, inr, ⊎-elim}
+use mathlib.Core.Logic.{⊎-elim}
 use Prim.Native.Nat.{ℕ, _+_, _*_}
 use native.Mathlib.Nat.{le-refl, le-of-mul-le-mul-right, mul-le-mul-right}
 use native.Mathlib.Omega.{arith}
@@ -63,21 +63,6 @@ float-refl nan p = absurd (true≢false p)
 float-refl (inf true) p = inf-le (inf true) p
 float-refl (inf false) p = le-inf (inf false) p
 float-refl (fin s m e) p = most→le (fin s m e) (fin s m e) tt tt (le-refl _)
-
-finite-total : (x y : Float) → T (finite x) → T (finite y) → T (le x y) ⊎ T (le y x)
-finite-total x y p q =
-    ⊎-elim (λ h. inl (most→le x y p q (omega arith))) (λ h. inr (most→le y x q p (omega arith)))
-    (lt-or-ge (hiOf x * den y + loOf y * den x) (hiOf y * den x + loOf x * den y))
-
-pub float-total : (x y : Float) → isNan x ≡ false → isNan y ≡ false → T (le x y) ⊎ T (le y x)
-unfolding isNan
-float-total nan y p q = absurd (true≢false p)
-float-total (inf true) y p q = inl (inf-le y q)
-float-total (inf false) y p q = inr (le-inf y q)
-float-total (fin s m e) nan p q = absurd (true≢false q)
-float-total (fin s m e) (inf true) p q = inr (inf-le (fin s m e) p)
-float-total (fin s m e) (inf false) p q = inl (le-inf (fin s m e) p)
-float-total (fin s m e) (fin t n d) p q = finite-total (fin s m e) (fin t n d) tt tt
 
 finite-trans : (x y z : Float) → T (finite x) → T (finite y) → T (finite z) → T (le x y) → T (le y z) → T (le x z)
 finite-trans x y z p q r h k =
@@ -154,21 +139,6 @@ lt-unless x y p q f = subst T (sym (float-lt-is x y p q)) (not-T (le y x) f)
 
 pub float-not-le : (x y : Float) → isNan x ≡ false → isNan y ≡ false → le x y ≡ false → T (lt y x)
 float-not-le x y p q e = lt-unless y x q p (λ h. subst T e h)
-
-pub float-le-lt-trans : (x y z : Float) → T (le x y) → T (lt y z) → T (lt x z)
-float-le-lt-trans x y z h k =
-    lt-unless x z (le-numbers x y h .0) (lt-numbers y z k .1) (λ l. float-clash y z k (float-trans z x y l h))
-
-pub float-lt-le-trans : (x y z : Float) → T (lt x y) → T (le y z) → T (lt x z)
-float-lt-le-trans x y z h k =
-    lt-unless x z (lt-numbers x y h .0) (le-numbers y z k .1) (λ l. float-clash x y h (float-trans y z x k l))
-
-pub float-irrefl : (x : Float) → lt x x ≡ false
-float-irrefl x = go (lt x x) (λ h. float-clash x x h (float-lt-le x x h))
-  where
-    go : (b : Bool) → (T b → ⊥) → b ≡ false
-    go true f = absurd (f tt)
-    go false f = refl
 
 -- ---- a NaN is what does not equal itself
 

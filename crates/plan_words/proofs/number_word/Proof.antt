@@ -8,6 +8,13 @@ use borrow.Author.Needs.{needs}
 use Rattle.plan_words.proofs.number_word.Statement.{statement}
 use Rattle.plan_words.proofs.number_word.Tie as tie
 
+-- the places that the needs look back to: no value behind fs=, and none behind rate=
+abbrev at-no-fs : tie.After-value-after2 → tie.After-enum-told
+at-no-fs rate = rate .before .before
+
+abbrev at-no-rate : tie.After-value-after3 → tie.After-enum-told2
+at-no-rate ancillary = ancillary .before .before
+
 slice-aggregate-value-after : tie.Need-slice-aggregate-value-after
 slice-aggregate-value-after c = search needs
 
@@ -46,10 +53,11 @@ cast-t16 c =
 returns-2 : tie.Need-returns-2
 unfolding numberWord
 returns-2 c =
-    let e1 = c .before .before .before .before .before in
+    let rate = c .before .before .before in
+    let no-fs = at-no-fs rate in
     rw (
-      sym (e1 .before .before .value-after .ensures) ∙ ap optionOf (e1 .enum-told .given .1),
-      sym (c .before .before .before .value-after2 .ensures) ∙ ap optionOf (c .before .rate .given .1),
+      sym (no-fs .before .before .value-after .ensures) ∙ ap optionOf (no-fs .enum-told .given .1),
+      sym (rate .value-after2 .ensures) ∙ ap optionOf (c .before .rate .given .1),
     )
 
 enum-told-2 : tie.Need-enum-told-2
@@ -72,12 +80,14 @@ cast-t19 c =
 returns-3 : tie.Need-returns-3
 unfolding numberWord
 returns-3 c =
-    let e2 = c .before .before .before .before .before in
-    let e1 = e2 .before .before .before .before in
+    let ancillary = c .before .before .before in
+    let no-rate = at-no-rate ancillary in
+    let rate = no-rate .before .before in
+    let no-fs = at-no-fs rate in
     rw (
-      sym (e1 .before .before .value-after .ensures) ∙ ap optionOf (e1 .enum-told .given .1),
-      sym (e2 .before .before .value-after2 .ensures) ∙ ap optionOf (e2 .enum-told2 .given .1),
-      sym (c .before .before .before .value-after3 .ensures) ∙ ap optionOf (c .before .ancillary .given .1),
+      sym (no-fs .before .before .value-after .ensures) ∙ ap optionOf (no-fs .enum-told .given .1),
+      sym (rate .value-after2 .ensures) ∙ ap optionOf (no-rate .enum-told2 .given .1),
+      sym (ancillary .value-after3 .ensures) ∙ ap optionOf (c .before .ancillary .given .1),
     )
 
 enum-told-3 : tie.Need-enum-told-3
@@ -86,12 +96,14 @@ enum-told-3 c = search needs
 returns-4 : tie.Need-returns-4
 unfolding numberWord
 returns-4 c =
-    let e2 = c .before .before .before .before in
-    let e1 = e2 .before .before .before .before in
+    let ancillary = c .before .before in
+    let no-rate = at-no-rate ancillary in
+    let rate = no-rate .before .before in
+    let no-fs = at-no-fs rate in
     rw (
-      sym (e1 .before .before .value-after .ensures) ∙ ap optionOf (e1 .enum-told .given .1),
-      sym (e2 .before .before .value-after2 .ensures) ∙ ap optionOf (e2 .enum-told2 .given .1),
-      sym (c .before .before .value-after3 .ensures) ∙ ap optionOf (c .enum-told3 .given .1),
+      sym (no-fs .before .before .value-after .ensures) ∙ ap optionOf (no-fs .enum-told .given .1),
+      sym (rate .value-after2 .ensures) ∙ ap optionOf (no-rate .enum-told2 .given .1),
+      sym (ancillary .value-after3 .ensures) ∙ ap optionOf (c .enum-told3 .given .1),
     )
 
 pub number-word-spec : {M : Type 1} → statement M

@@ -7,22 +7,27 @@ use Rattle.folgrist_mp2.proofs.frame.budget_values.Tie as tie
 enum-known-budget : tie.Need-enum-known-budget
 enum-known-budget c = search needs
 
+-- the budget, where it is told
+abbrev at-budget : tie.After-struct-known → tie.After-budget
+at-budget c = c .before .before
+
 cast-t5 : tie.Need-cast-t5
 cast-t5 c =
-    let h = c .before .before .before .before .pre _ (c .before .before .budget .given .1) in
-    omega (arith, h .sblimit)
+    let told = at-budget c in
+    let bounded = told .before .before .pre _ (told .budget .given .1) in
+    omega (arith, bounded .sblimit)
 
 cast-t6 : tie.Need-cast-t6
 cast-t6 c =
-    let k = c .before in
-    let h = k .before .before .before .before .pre _ (k .before .before .budget .given .1) in
-    omega (arith, h .sblimit, h .bound)
+    let told = at-budget (c .before) in
+    let bounded = told .before .before .pre _ (told .budget .given .1) in
+    omega (arith, bounded .sblimit, bounded .bound)
 
 cast-t7 : tie.Need-cast-t7
 cast-t7 c =
-    let k = c .before .before in
-    let h = k .before .before .before .before .pre _ (k .before .before .budget .given .1) in
-    omega (arith, h .channels)
+    let told = at-budget (c .before .before) in
+    let bounded = told .before .before .pre _ (told .budget .given .1) in
+    omega (arith, bounded .channels)
 
 number-requires : tie.Need-number-requires
 number-requires c κs = search needs
@@ -31,7 +36,9 @@ enum-told : tie.Need-enum-told
 enum-told c = search needs
 
 returns : tie.Need-returns
-returns c = rw (c .before .before .before .before .before .budget .given .1, c .number .ensures)
+returns c =
+    let told = at-budget (c .before .before .before) in
+    rw (told .budget .given .1, c .number .ensures)
 
 returns-2 : tie.Need-returns-2
 returns-2 c = rw (c .enum-told .given .1)
