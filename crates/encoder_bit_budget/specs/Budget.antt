@@ -122,7 +122,8 @@ budgetOf q =
 abbrev pub fixedOf : Request → ℕ
 fixedOf q = fixedIn (budgetOf q .budget)
 
--- offered: the frame's bits less the fixed ones and the caller's ancillary bits, as a signed number
+-- offered, the clause's adb before any field has steps: the frame's bits less the fixed ones and the caller's ancillary bits, as a signed
+-- number; of a refused header it says nothing
 abbrev pub offeredOf : Request → ℤ
 offeredOf q = minus (cbOf q) (fixedOf q + q .banc)
 

@@ -32,7 +32,7 @@ use Rattle.encoder_bit_demand.specs.declared.DemandBits.{DemandBits}
 use Rattle.encoder_bit_demand.specs.declared.DemandBits.the-variants as Demand
 use Rattle.encoder_bit_budget.specs.Budget.{BudgetAnswer, plain, errorNumber, budgetIn, budgetOf, layoutIn}
 use Rattle.encoder_bit_demand.specs.Snr.{snr}
-use Rattle.encoder_bit_demand.specs.Demand.{neededSteps, neededBits, orTop, smrAt, smrsOf, most, layoutDemand, Demanded, demandOf, FirstStepIs, DemandIs}
+use Rattle.encoder_bit_demand.specs.Demand.{neededSteps, neededBits, orTop, smrAt, smrsOf, largestSmr, layoutDemand, Demanded, demandOf, FirstStepIs, DemandIs}
 use Rattle.encoder_bit_demand.specs.OnTheWay.{demandBy, NeededIs, FieldDemandIs, LayoutDemandIs, DemandInIs}
 
 -- ---- the steps that a ratio needs, by a search along the first places of a row
@@ -126,7 +126,7 @@ row-read t sb places row h p e = record {
 -- ---- a field
 
 pub larger : (smr : List (List Float)) (x : AllocationField) (r : Float) → x .both ≡ true → r ≡ maxOf (smrAt smr 0 (x .subband)) (smrAt smr 1 (x .subband))
-  → r ≡ most (smrsOf smr x)
+  → r ≡ largestSmr (smrsOf smr x)
 larger smr x r e m = rw e m
 
 pub first-step : (x : AllocationField) (b : Bool) (r : ℕ) → x .both ≡ b → r ≡ cond b 40 20 → FirstStepIs x r
@@ -140,7 +140,7 @@ first-step x b r e p = record { whole = rw e (p ∙ go b); most = rw p (small b)
     small false = lit≤ tt
 
 pub field-demand : (t : BitAllocTable) (smr : List (List Float)) (x : AllocationField) (first r : ℕ) (row : List ℕ) (s : Float)
-  → row ≡ rowOf t (x .subband) → s ≡ most (smrsOf smr x) → FirstStepIs x first → NeededIs row s first r → FieldDemandIs t smr x r
+  → row ≡ rowOf t (x .subband) → s ≡ largestSmr (smrsOf smr x) → FirstStepIs x first → NeededIs row s first r → FieldDemandIs t smr x r
 field-demand t smr x first r row s e m f n = record {
   whole = n .whole ∙ (λ i. neededBits (e i) (m i) (f .whole i));
   most = let a = n .most in let b = f .most in omega arith

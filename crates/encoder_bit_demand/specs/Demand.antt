@@ -36,10 +36,10 @@ abbrev pub firstStep : AllocationField → ℕ
 firstStep x = 20 * length (served x)
 
 -- the larger of the ratios of the channels that a field serves; a NaN beside a number yields the number
-abbrev pub most : List Float → Float
-most [] = nan  -- no field serves none
-most (r ∷ []) = r
-most (r ∷ s ∷ rs) = maxOf r (most (s ∷ rs))
+abbrev pub largestSmr : List Float → Float
+largestSmr [] = nan  -- no field serves none
+largestSmr (r ∷ []) = r
+largestSmr (r ∷ s ∷ rs) = maxOf r (largestSmr (s ∷ rs))
 
 -- the steps that a ratio needs: the first place of the row above 0 whose SNR is at least the ratio, or the top place
 abbrev pub orTop : List ℕ → Option ℕ → ℕ
@@ -55,7 +55,7 @@ unfolding neededSteps
 neededBits row r first = cond (le r (fin false 0 (pos 0))) 0 (sampleBits (neededSteps row r) + first)
 
 abbrev pub fieldDemand : BitAllocTable → List (List Float) → AllocationField → ℕ
-fieldDemand t smr x = neededBits (rowOf t (x .subband)) (most (smrsOf smr x)) (firstStep x)
+fieldDemand t smr x = neededBits (rowOf t (x .subband)) (largestSmr (smrsOf smr x)) (firstStep x)
 
 -- the sum over the fields
 unfoldable pub layoutDemand : Layout → List (List Float) → ℕ

@@ -7,7 +7,7 @@ ghost use lib.ListN.{length, take};
 ghost use Rattle.bitalloc.specs.Tables.{sblimitOf};
 ghost use Rattle.encoder_bit_budget.specs.Budget.{budgetIn};
 ghost use Rattle.encoder_bit_demand.specs.Snr.{decibels, rowNumber, orPast, snrOf, snr, snrIn};
-ghost use Rattle.encoder_bit_demand.specs.Demand.{smrsOf, most, neededSteps, demandIn, FirstStepIs, DemandIs};
+ghost use Rattle.encoder_bit_demand.specs.Demand.{smrsOf, largestSmr, neededSteps, demandIn, FirstStepIs, DemandIs};
 ghost use Rattle.encoder_bit_demand.specs.OnTheWay.{NeededIs, FieldDemandIs, LayoutDemandIs, DemandInIs};
 use bitalloc::BitAllocTable;
 use encoder_bit_budget::{BitAllocError, Budget, FixedBitBudget};
@@ -146,7 +146,7 @@ fn field_demand(table: BitAllocTable, field: AllocationField, smr_db: &[[f64; 32
 // The larger of the ratios of the channels that a field serves.
 fn field_smr(field: AllocationField, smr_db: &[[f64; 32]; 2]) -> f64
     requires { ⌜ (field .subband < 32) × (field .channel < 2) ⌝ }
-    ensures { λ r. ⌜ r ≡ most (smrsOf (now («smr_db» .entry)) field) ⌝ }
+    ensures { λ r. ⌜ r ≡ largestSmr (smrsOf (now («smr_db» .entry)) field) ⌝ }
 {
     let sb = field.subband;
     if field.both {

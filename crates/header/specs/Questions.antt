@@ -4,7 +4,7 @@ use Prim.Native.Nat.{ℕ}
 use mathlib.Core.Bool.{Bool, true, false}
 use mathlib.Core.List.{List, [], _∷_, map}
 
--- a question: whether it is answered yes, and what a no gives: the answer's number, or a number with a place
+-- a question: whether it is answered yes, and what a no gives: an answer's number, or a number with the subband and the channel that it is about
 pub record Question (A : Type 0) : Type 0 where
   pub yes : Bool
   pub otherwise : A

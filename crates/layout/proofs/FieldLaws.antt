@@ -19,7 +19,7 @@ use Rattle.bitalloc.specs.Tables.{sblimitOf}
 use Rattle.bitalloc.proofs.RowLaws.{sblimit-small}
 use Rattle.layout.specs.declared.Layout.{Layout}
 use Rattle.layout.specs.declared.AllocationField.{AllocationField}
-use Rattle.layout.specs.Layout.{own, shared, served, limitOf, fieldsBelow, fieldsOf, fieldIn, serves, servedBy, FieldsAre, FieldIs, ServedBy}
+use Rattle.layout.specs.Layout.{own, shared, served, limitOf, fieldsBelow, fieldsOf, fieldIn, serves, servedBy, FieldsAre, FieldIs, ServingIs}
 use Rattle.layout.proofs.NumberLaws.{numbered, count, serving, Numbered, fields-numbered, numbered-below, numbered-channel, count-small, Carried, Outside, by-number, by-none, served-back, first-served}
 
 module _ (l : Layout) where
@@ -92,7 +92,7 @@ module _ (l : Layout) where
       limit-some B2d = lit< tt
       limit-some B1Lsf = lit< tt
 
-  pub serving-is : (ch sb f : ℕ) → Carried one (limitOf l) ch sb → f ≡ serving one (l .bound) ch sb → f < 60 → ServedBy l ch sb (Some f)
+  pub serving-is : (ch sb f : ℕ) → Carried one (limitOf l) ch sb → f ≡ serving one (l .bound) ch sb → f < 60 → ServingIs l ch sb (Some f)
   unfolding fieldsOf
   serving-is ch sb f c e h = record {
     whole = ap some e ∙ sym (by-number one l (limitOf l) ch sb (fields-numbered l (limitOf l)) c);
@@ -102,7 +102,7 @@ module _ (l : Layout) where
       held : {m n : ℕ} → Some m ≡ Some n → m ≡ n
       held e = cc
 
-  pub none-serves : (ch sb : ℕ) → Outside one (limitOf l) ch sb → ServedBy l ch sb None
+  pub none-serves : (ch sb : ℕ) → Outside one (limitOf l) ch sb → ServingIs l ch sb None
   unfolding fieldsOf
   none-serves ch sb o = record {
     whole = sym (by-none one l (limitOf l) ch sb (fields-numbered l (limitOf l)) o);
@@ -110,7 +110,7 @@ module _ (l : Layout) where
   }
 
   -- above the limit, with one channel and with two
-  pub past-limit : (ch sb : ℕ) → limitOf l ≤ sb → ServedBy l ch sb None
+  pub past-limit : (ch sb : ℕ) → limitOf l ≤ sb → ServingIs l ch sb None
   unfolding Outside
   past-limit ch sb h = none-serves ch sb (go one)
     where

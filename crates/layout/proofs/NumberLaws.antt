@@ -9,10 +9,10 @@ use native.Mathlib.Nat.{not-suc-le-zero, lt-trans}
 use native.Mathlib.Decide.{decLt, ℕ-discrete}
 use native.Mathlib.Omega.{arith}
 use lib.Dec.{T, eqb, ltb, eqb→eq, lit<}
-use lib.ListN.{length, length-append, List·getD-append}
-use lib.Seq.{getD-append-add}
+use lib.ListN.{length, length-append}
 use borrow.Author.Tests.{lt-ltb, le-ltb, eq-eqb, ne-eqb}
 use Rattle.tables.specs.Search.{place, oneOf}
+use Rattle.tables.proofs.Listed.{at-append}
 use Rattle.tables.proofs.Search.{place-found, place-missing}
 use Rattle.layout.specs.declared.Layout.{Layout}
 use Rattle.layout.specs.declared.AllocationField.{AllocationField}
@@ -34,18 +34,6 @@ count false bound n = n + min n bound
 abbrev pub serving : Bool → ℕ → ℕ → ℕ → ℕ
 serving true bound ch sb = sb
 serving false bound ch sb = cond (ltb sb bound) (2 * sb + ch) (sb + bound)
-
--- what stands at a place of two lists put together
-at-append : (xs ys : List AllocationField) (f n : ℕ) (v : AllocationField) → length xs ≡ n → (f < n → fieldIn xs f ≡ v)
-  → ((i : ℕ) → f ≡ n + i → i < length ys → fieldIn ys i ≡ v) → f < n + length ys → fieldIn (xs ++ ys) f ≡ v
-at-append xs ys f n v e a b h = go (decLt f n)
-  where
-    go : Dec (f < n) → fieldIn (xs ++ ys) f ≡ v
-    go (yes l) = List·getD-append xs ys _ f (rw e l) ∙ a l
-    go (no l) =
-        let q : f ≡ n + (f - n) = omega arith in
-        let q′ : f ≡ length xs + (f - n) = q ∙ ap (λ (m : ℕ). m + (f - n)) (sym e) in
-        ap (fieldIn (xs ++ ys)) q′ ∙ getD-append-add xs ys (f - n) _ ∙ b (f - n) q (omega arith)
 
 -- a subband's fields with one channel, and with two below the bound and above it
 one-at : (l : Layout) (n : ℕ) → eqb (l .channels) 1 ≡ true → fieldsAt l n ≡ own n 0 ∷ []
@@ -71,7 +59,7 @@ one-numbered l e (suc n) =
     let q = one-at l n e in
     record {
       many = rw q (length-append xs (own n 0 ∷ []) ∙ (let m = ih .many in omega arith));
-      which = λ f h. rw q (at-append xs (own n 0 ∷ []) f n (own f 0) (ih .many) (ih .which f) (last f) (omega arith))
+      which = λ f h. rw q (at-append (own 0 0) xs (own n 0 ∷ []) f n (own f 0) (ih .many) (ih .which f) (last f) (omega arith))
     }
   where
     last : (f i : ℕ) → f ≡ n + i → i < 1 → fieldIn (own n 0 ∷ []) i ≡ own f 0
@@ -107,7 +95,7 @@ two-numbered l e (suc n) = go (two-numbered l e n) (decLt n bound)
         let q = two-below l n e h in
         record {
           many = rw q (length-append (fieldsBelow l n) (own n 0 ∷ own n 1 ∷ []) ∙ (let m = ih .many in omega arith));
-          which = λ f g. rw q (at-append (fieldsBelow l n) (own n 0 ∷ own n 1 ∷ []) f (n + min n bound) (numbered false bound f) (ih .many) (ih .which f)
+          which = λ f g. rw q (at-append (own 0 0) (fieldsBelow l n) (own n 0 ∷ own n 1 ∷ []) f (n + min n bound) (numbered false bound f) (ih .many) (ih .which f)
             (λ i p k. low f i h p k) (let m : f < suc n + min (suc n) bound = g in omega arith))
         }
     go ih (no k) =
@@ -115,7 +103,7 @@ two-numbered l e (suc n) = go (two-numbered l e n) (decLt n bound)
         let q = two-above l n e h in
         record {
           many = rw q (length-append (fieldsBelow l n) (shared n ∷ []) ∙ (let m = ih .many in omega arith));
-          which = λ f g. rw q (at-append (fieldsBelow l n) (shared n ∷ []) f (n + min n bound) (numbered false bound f) (ih .many) (ih .which f)
+          which = λ f g. rw q (at-append (own 0 0) (fieldsBelow l n) (shared n ∷ []) f (n + min n bound) (numbered false bound f) (ih .many) (ih .which f)
             (λ i p k. high f i h p k) (let m : f < suc n + min (suc n) bound = g in omega arith))
         }
 

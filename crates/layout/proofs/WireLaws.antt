@@ -4,12 +4,10 @@ use mathlib.Core.Bool.{Bool, true, false, cond}
 use mathlib.Core.List.{List, [], _∷_, _++_, append-assoc, map}
 use Prim.Native.Nat.{ℕ, zero, suc, _+_, _-_, _*_, _/_, _%_, _≤_, _<_}
 use native.Mathlib.Nat.{not-suc-le-zero}
-use native.Mathlib.Decide.{decLt}
 use native.Mathlib.Omega.{arith}
 use lib.Dec.{eqb, ltb, lit<}
-use lib.ListN.{length, getD, length-append, List·getD-append, List·getD-eq-default}
-use lib.Seq.{getD-append-add}
-use Rattle.bitalloc.proofs.RowLaws.{sblimit-small}
+use lib.ListN.{length, getD, length-append, List·getD-eq-default}
+use Rattle.tables.proofs.Listed.{at-append}
 use Rattle.layout.specs.declared.Layout.{Layout}
 use Rattle.layout.specs.declared.AllocationField.{AllocationField}
 use Rattle.layout.specs.Slots.{slotOf}
@@ -42,17 +40,6 @@ subband-slots l n e = rw e (go (ltb n (l .bound)))
     go true = refl
     go false = refl
 
-at-append : (xs ys : List ℕ) (k n v : ℕ) → length xs ≡ n → (k < n → getD xs k 0 ≡ v)
-  → ((i : ℕ) → k ≡ n + i → i < length ys → getD ys i 0 ≡ v) → k < n + length ys → getD (xs ++ ys) k 0 ≡ v
-at-append xs ys k n v e a b h = go (decLt k n)
-  where
-    go : Dec (k < n) → getD (xs ++ ys) k 0 ≡ v
-    go (yes l) = List·getD-append xs ys _ k (rw e l) ∙ a l
-    go (no l) =
-        let q : k ≡ n + (k - n) = omega arith in
-        let q′ : k ≡ length xs + (k - n) = q ∙ ap (λ (m : ℕ). m + (k - n)) (sym e) in
-        ap (λ (m : ℕ). getD (xs ++ ys) m 0) q′ ∙ getD-append-add xs ys (k - n) 0 ∙ b (k - n) q (omega arith)
-
 one-wired : (l : Layout) → eqb (l .channels) 1 ≡ true → (n : ℕ) → Wired true l n
 unfolding fieldsBelow
 one-wired l e zero = record { many = refl; which = λ k h. absurd (not-suc-le-zero h) }
@@ -63,7 +50,7 @@ one-wired l e (suc n) =
         slots-append (fieldsBelow l n) (fieldsAt l n) ∙ (rw e refl) in
     record {
       many = ap length q ∙ length-append xs (slotOf 0 n ∷ []) ∙ (let m = ih .many in omega arith);
-      which = λ k h. ap (λ (s : List ℕ). getD s k 0) q ∙ at-append xs (slotOf 0 n ∷ []) k n k (ih .many) (ih .which k) (last k) (omega arith)
+      which = λ k h. ap (λ (s : List ℕ). getD s k 0) q ∙ at-append 0 xs (slotOf 0 n ∷ []) k n k (ih .many) (ih .which k) (last k) (omega arith)
     }
   where
     last : (k i : ℕ) → k ≡ n + i → i < 1 → getD (slotOf 0 n ∷ []) i 0 ≡ k
@@ -82,7 +69,7 @@ two-wired l e (suc n) =
     record {
       many = ap length q ∙ length-append xs both ∙ (let m = ih .many in omega arith);
       which = λ k h. ap (λ (s : List ℕ). getD s k 0) q
-        ∙ at-append xs both k (2 * n) (slotNumbered false k) (ih .many) (ih .which k) (last k) (omega arith)
+        ∙ at-append 0 xs both k (2 * n) (slotNumbered false k) (ih .many) (ih .which k) (last k) (omega arith)
     }
   where
     last : (k i : ℕ) → k ≡ 2 * n + i → i < 2 → getD (slotOf 0 n ∷ slotOf 1 n ∷ []) i 0 ≡ 32 * (k % 2) + k / 2

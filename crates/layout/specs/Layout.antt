@@ -24,7 +24,8 @@ use Rattle.layout.specs.Slots.{slotOf}
 
 -- ---- the layout of a header's frame
 
--- the bound: in joint stereo the mode extension's, but at most sblimit; in the other modes no subband is shared
+-- the bound (2.4.2.3, mode_extension): in joint stereo the extension's, but at most sblimit, since no subband above it is carried; in the other
+-- modes no subband is shared
 abbrev pub sharedFrom : Mode → ℕ → ℕ → ℕ
 sharedFrom Stereo extension sblimit = sblimit
 sharedFrom JointStereo extension sblimit = min extension sblimit
@@ -119,7 +120,7 @@ pub record FieldIs (l : Layout) (number : ℕ) (r : AllocationField) : Type 0 wh
   pub carried : r .subband < limitOf l
   pub channel : r .channel < 2
 
-pub record ServedBy (l : Layout) (ch sb : ℕ) (r : OptionU32) : Type 0 where
+pub record ServingIs (l : Layout) (ch sb : ℕ) (r : OptionU32) : Type 0 where
   pub whole : numberIn r ≡ servedBy l ch sb
   pub below : (f : ℕ) → r ≡ Some f → f < 60
 

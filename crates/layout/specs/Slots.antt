@@ -15,7 +15,7 @@ channelIn slot = slot / 32
 abbrev pub subbandIn : ℕ → ℕ
 subbandIn slot = slot % 32
 
--- ---- signal-to-mask ratios that come in one row of slots, as the two rows of 32 that the budget and the allocator take
+-- ---- signal-to-mask ratios that come in one row of slots, as the two rows of 32 that the demand and the allocation take
 
 -- the ratios of a channel, by subband; a NaN where there are too few slots
 unfoldable pub smrRow : List Float → ℕ → List Float

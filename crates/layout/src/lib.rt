@@ -1,7 +1,7 @@
 // The layout of a frame's side information (ISO/IEC 11172-3 2.4.1.6): its allocation fields and its slots, in the order of the bitstream.
 ghost use mathlib.Core.Path.{_≡_};
 ghost use Rattle.header.specs.Header.{boundOf};
-ghost use Rattle.layout.specs.Layout.{own, sharedFrom, layoutOf, ChannelCountIs, FieldsAre, FieldIs, ServedBy, SlotsAre, SlotIs};
+ghost use Rattle.layout.specs.Layout.{own, sharedFrom, layoutOf, ChannelCountIs, FieldsAre, FieldIs, ServingIs, SlotsAre, SlotIs};
 use bitalloc::{BitAllocTable, OptionU32};
 use header::{FrameHeader, Mode};
 
@@ -84,7 +84,7 @@ impl Layout {
 
     // The number of the field that serves a slot; none where the layout does not carry the slot.
     pub fn field_serving(self, channel: usize, subband: usize) -> OptionU32
-        ensures { λ r. ⌜ ServedBy self channel subband r ⌝ }
+        ensures { λ r. ⌜ ServingIs self channel subband r ⌝ }
     {
         let table = self.table;
         let sblimit = table.sblimit();

@@ -1,4 +1,4 @@
-// Signal-to-mask ratios that come in one row of slots, as the two rows of 32 that the budget and the allocator take.
+// Signal-to-mask ratios that come in one row of slots, as the two rows of 32 that the demand and the allocation take.
 ghost use mathlib.Core.Path.{_≡_};
 ghost use Prim.Native.Nat.{_<_};
 ghost use lib.Ieee.{nan};

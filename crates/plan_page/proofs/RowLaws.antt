@@ -20,7 +20,7 @@ use Rattle.text_line.specs.Line.{cut, aligned}
 use Rattle.text_line.specs.Number.{numberText}
 use Rattle.text_line.proofs.LineLaws.{cut-whole, behind, more}
 use Rattle.plan_page.specs.Rows.{joined, headingLine, rowStart, channelColumns, subbandBits, subbandLine}
-use Rattle.plan_page.specs.Charged.{BitsIn}
+use Rattle.plan_page.specs.Charged.{BitsInAre}
 
 -- ---- the columns of one channel after the other
 
@@ -48,11 +48,11 @@ row-is l steps smr sb channels bits c b =
 -- ---- the bits of a subband
 
 module _ (steps : List ℕ) (sb : ℕ) (x : AllocationField) where
-  pub bits-here : (nb first r : ℕ) → x .subband ≡ sb → nb ≡ fieldSteps steps x → FirstStepIs x first → ChargeIs nb first r → BitsIn steps sb x r
+  pub bits-here : (nb first r : ℕ) → x .subband ≡ sb → nb ≡ fieldSteps steps x → FirstStepIs x first → ChargeIs nb first r → BitsInAre steps sb x r
   bits-here nb first r e n f c = record {
     whole = rw (eq-eqb (x .subband) sb e) (c .whole ∙ ap₂ charge n (f .whole));
     most = let a = c .most in let b = f .most in omega arith
   }
 
-  pub bits-elsewhere : (x .subband ≡ sb → ⊥) → BitsIn steps sb x 0
+  pub bits-elsewhere : (x .subband ≡ sb → ⊥) → BitsInAre steps sb x 0
   bits-elsewhere e = record { whole = rw (ne-eqb (x .subband) sb e); most = lit≤ tt }

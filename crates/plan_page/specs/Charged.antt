@@ -7,7 +7,7 @@ use Rattle.layout.specs.declared.Layout.{Layout}
 use Rattle.layout.specs.declared.AllocationField.{AllocationField}
 use Rattle.plan_page.specs.Rows.{bitsIn, subbandBits}
 
-pub record BitsIn (steps : List ℕ) (sb : ℕ) (x : AllocationField) (r : ℕ) : Type 0 where
+pub record BitsInAre (steps : List ℕ) (sb : ℕ) (x : AllocationField) (r : ℕ) : Type 0 where
   pub whole : r ≡ bitsIn steps sb x
   pub most : r ≤ 616
 

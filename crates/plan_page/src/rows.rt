@@ -5,7 +5,7 @@ ghost use Prim.Native.Nat.{_≤_, _<_};
 ghost use Rattle.plan_text.specs.Quoted.{text};
 ghost use Rattle.text_line.specs.Line.{textOf, cut};
 ghost use Rattle.plan_page.specs.Rows.{joined, columnHeads, headingLine, rowStart, slotColumns, channelColumns, subbandLine};
-ghost use Rattle.plan_page.specs.Charged.{BitsIn, SubbandBitsAre};
+ghost use Rattle.plan_page.specs.Charged.{BitsInAre, SubbandBitsAre};
 use layout::{AllocationField, Layout};
 use text_line::Line;
 
@@ -98,7 +98,7 @@ fn subband_bits(layout: Layout, steps: &[u32; 64], sb: usize) -> u64
 // The bits charged for a field, where it is one of the subband's.
 fn bits_in(field: AllocationField, steps: &[u32; 64], sb: usize) -> u64
     requires { ⌜ (field .subband < 30) × (field .channel < 2) ⌝ }
-    ensures { λ r. ⌜ BitsIn (now (steps .entry)) sb field r ⌝ }
+    ensures { λ r. ⌜ BitsInAre (now (steps .entry)) sb field r ⌝ }
 {
     if field.subband == sb {
         let nb_steps = steps[32 * field.channel + field.subband];

@@ -1,13 +1,14 @@
 -- Laws of a list given entry by entry, and of a loop that fills an array from the front.
 use mathlib.Core.Path.{_≡_, refl, sym, ap, ap₂, _∙_, subst}
-use mathlib.Core.List.{List, [], _∷_, map}
+use mathlib.Core.List.{List, [], _∷_, _++_, map}
 use mathlib.Core.Logic.{⊎-elim}
-use Prim.Native.Nat.{ℕ, zero, suc, _+_, _<_, suc-le-suc}
+use Prim.Native.Nat.{ℕ, zero, suc, _+_, _-_, _<_, suc-le-suc}
 use native.Mathlib.Nat.{le-of-suc-le-suc, not-suc-le-zero, eq-or-lt-of-le, zero-lt-suc}
+use native.Mathlib.Decide.{decLt}
 use native.Mathlib.Numerals.{add-one}
 use native.Mathlib.Omega.{arith}
-use lib.ListN.{length, getD, set}
-use lib.Seq.{ext-getD, getD-set-same, getD-set-other}
+use lib.ListN.{length, getD, set, List·getD-append}
+use lib.Seq.{ext-getD, getD-set-same, getD-set-other, getD-append-add}
 use Rattle.tables.specs.Listed.{tabulate}
 
 module _ {A : Type 0} where
@@ -25,6 +26,18 @@ module _ {A : Type 0} where
   listed n f d xs e b =
       ext-getD d xs (tabulate n f) (e ∙ sym (length-tabulate n f))
       (λ k l. let h : k < n = subst (λ (m : ℕ). k < m) e l in b k h ∙ sym (tabulated n f k d h))
+
+  -- what stands at a place of two lists put together
+  pub at-append : (d : A) (xs ys : List A) (k n : ℕ) (v : A) → length xs ≡ n → (k < n → getD xs k d ≡ v)
+    → ((i : ℕ) → k ≡ n + i → i < length ys → getD ys i d ≡ v) → k < n + length ys → getD (xs ++ ys) k d ≡ v
+  at-append d xs ys k n v e a b h = go (decLt k n)
+    where
+      go : Dec (k < n) → getD (xs ++ ys) k d ≡ v
+      go (yes l) = List·getD-append xs ys d k (rw e l) ∙ a l
+      go (no l) =
+          let q : k ≡ n + (k - n) = omega arith in
+          let q′ : k ≡ length xs + (k - n) = q ∙ ap (λ (m : ℕ). m + (k - n)) (sym e) in
+          ap (λ (m : ℕ). getD (xs ++ ys) m d) q′ ∙ getD-append-add xs ys (k - n) d ∙ b (k - n) q (omega arith)
 
   -- two functions that agree make the same list
   pub tabulate-same : (n : ℕ) (f g : ℕ → A) → ((k : ℕ) → k < n → f k ≡ g k) → tabulate n f ≡ tabulate n g

@@ -1,11 +1,17 @@
 -- `encoder_bit_allocator::steps_at` meets its contract.
 use mathlib.Core.Path.{sym, ap, _∙_}
+use Prim.Native.Nat.{_<_}
 use native.Mathlib.Omega.{arith}
+use Rattle.allocation_rounds.specs.Rounds.{placeIn}
 use Rattle.bitalloc.specs.Options.{numberIn}
 use Rattle.encoder_bit_allocator.proofs.HeldLaws.{steps-found, steps-none}
 use borrow.Author.Needs.{needs}
 use Rattle.encoder_bit_allocator.proofs.steps_at.Statement.{statement}
 use Rattle.encoder_bit_allocator.proofs.steps_at.Tie as tie
+
+-- the place of the field that was found is one of sixteen
+small : (c : tie.After-known-told) → placeIn (c .before .before .before .before .args .places .now) (c .before .serving .given .0 .0) < 16
+small c = c .before .before .before .before .pre .1 (c .before .serving .given .0 .0)
 
 field-serving-requires : tie.Need-field-serving-requires
 field-serving-requires c κs = search needs
@@ -30,16 +36,16 @@ element-copy-out-place c =
     omega (arith, c .before .before .before .field-serving .ensures .below (found .0 .0) (found .1))
 
 cast-place-2 : tie.Need-cast-place-2
-cast-place-2 c = let start = c .before .before .before .before .before in omega (arith, start .pre .1 (c .before .before .serving .given .0 .0))
+cast-place-2 c = omega (arith, small (c .before))
 
 row-requires : tie.Need-row-requires
 row-requires c κs = search needs
 
 mul-result : tie.Need-mul-result
-mul-result c = let start = c .before .before .before .before .before .before in omega (arith, start .pre .1 (c .before .before .before .serving .given .0 .0))
+mul-result c = omega (arith, small (c .before .before))
 
 array-read-result : tie.Need-array-read-result
-array-read-result c = let start = c .before .before .before .before .before .before in omega (arith, start .pre .1 (c .before .before .before .serving .given .0 .0))
+array-read-result c = omega (arith, small (c .before .before))
 
 returns-2 : tie.Need-returns-2
 returns-2 c =

@@ -40,9 +40,11 @@ loop-less c = search needs
 
 loop-again : tie.Need-loop-again Inv-loop μ-loop
 loop-again c =
-    let start = c .before .before .before .before .before in
-    let l = c .before .before .before .loop in
-    let many = c .before .before .before .before .fields .ensures in
+    let at = c .before .before .before in
+    let l = at .loop in
+    let fields = at .before in
+    let start = fields .before in
+    let many = fields .fields .ensures in
     let here : l .f < length (fieldsOf (start .args .layout)) = rw (many .whole) at (c .before .before .loop-test .taken) in
     (
       search needs,
@@ -55,9 +57,10 @@ loop-again c =
 returns : tie.Need-returns Inv-loop μ-loop
 unfolding layoutDemand
 returns c =
-    let start = c .before .before .before in
     let l = c .before .loop in
-    let many = c .before .before .fields .ensures in
+    let fields = c .before .before in
+    let start = fields .before in
+    let many = fields .fields .ensures in
     record {
       whole = summed (fieldDemand (start .args .layout .table) (start .args .smr-db .now)) (fieldsOf (start .args .layout)) (l .f) (l .bits) (l .inv .1 .0)
         (rw (many .whole) at (c .loop-test .left));

@@ -34,9 +34,10 @@ reaches-requires c κs = search needs
 
 returns : tie.Need-returns Inv-loop μ-loop
 returns c =
-    let a = c .before .before .before .before .before .before .before .args in
-    let l = c .before .before .before .before .before .loop in
-    reached (a .row .now) (a .places) (a .smr) (search needs) (search needs) (l .at) (l .inv .0) (search needs) (l .inv .1)
+    let at = c .before .before .before .before .before in
+    let l = at .loop in
+    let given = at .before .before .args in
+    reached (given .row .now) (given .places) (given .smr) (search needs) (search needs) (l .at) (l .inv .0) (search needs) (l .inv .1)
     (sym (c .before .reaches .ensures) ∙ c .if1 .taken)
 
 add-at : tie.Need-add-at Inv-loop μ-loop
@@ -47,7 +48,8 @@ loop-less c = search needs
 
 loop-again : tie.Need-loop-again Inv-loop μ-loop
 loop-again c =
-    let l = c .before .before .before .before .before .loop in
+    let at = c .before .before .before .before .before in
+    let l = at .loop in
     (search needs, below-more _ (l .at) (l .inv .1) (λ h. sym (c .before .reaches .ensures) ∙ c .if1 .left))
 
 mul-result : tie.Need-mul-result Inv-loop μ-loop
@@ -58,9 +60,10 @@ element-copy-out-result c = search needs
 
 returns-2 : tie.Need-returns-2 Inv-loop μ-loop
 returns-2 c =
-    let a = c .before .before .before .before .args in
-    let l = c .before .before .loop in
-    top (a .row .now) (a .places) (a .smr) (search needs) (search needs) (λ k h. l .inv .1 k (omega arith))
+    let at = c .before .before in
+    let l = at .loop in
+    let given = at .before .before .args in
+    top (given .row .now) (given .places) (given .smr) (search needs) (search needs) (λ k h. l .inv .1 k (omega arith))
 
 pub needed-steps-spec : {M : Type 1} → statement M
 needed-steps-spec =
