@@ -11,7 +11,7 @@ use native.Mathlib.Nat.{not-suc-le-zero, le-of-suc-le-suc, zero-lt-suc, eq-or-lt
 use native.Mathlib.Omega.{arith}
 use lib.Dec.{T, eqb, ltb, ltb→lt}
 use lib.ListN.{length, getD, drop}
-use lib.Ieee.{lt, le}
+use lib.Ieee.{le}
 use borrow.Author.Tests.{lt-ltb, eqb-true}
 use Rattle.tables.specs.Search.{oneOf}
 use Rattle.tables.proofs.Rule.{first, second, all, all-at, allBelow, below}
@@ -24,7 +24,7 @@ use Rattle.bitalloc.specs.Classes.{classes, classOf, sampleBits, frameBits}
 use Rattle.bitalloc.proofs.RowLaws.{row-rule, row-rises, no-row}
 use Rattle.encoder_bit_demand.specs.Snr.{snrOf, snr, orNan}
 use Rattle.bitalloc.specs.Options.{isSome}
-use Rattle.encoder_bit_demand.proofs.SnrLaws.{keys, SnrRule, snr-rule, snr-rises, snr-le}
+use Rattle.encoder_bit_demand.proofs.SnrLaws.{keys, SnrRule, snr-rule, snr-le}
 
 -- ---- the numbers of a row
 
@@ -98,12 +98,6 @@ row-snr-rule t sb i = snr-rule (getD (rowOf t sb) i 0) (snr (getD (rowOf t sb) i
 row-steps-le : (t : BitAllocTable) (sb i j : ℕ) → i ≤ j → j < length (rowOf t sb) → getD (rowOf t sb) i 0 ≤ getD (rowOf t sb) j 0
 row-steps-le t sb i j l h =
     ⊎-elim (λ e. le-of-eq (ap (λ (k : ℕ). getD (rowOf t sb) k 0) e)) (λ m. le-of-lt (row-rises t sb i j m h)) (eq-or-lt-of-le l)
-
-pub row-snr-rises : (t : BitAllocTable) (sb i j : ℕ) → i < j → j < length (rowOf t sb)
-  → T (lt (snr (getD (rowOf t sb) i 0)) (snr (getD (rowOf t sb) j 0)))
-row-snr-rises t sb i j l h =
-    snr-rises (getD (rowOf t sb) i 0) (getD (rowOf t sb) j 0) (snr (getD (rowOf t sb) i 0)) (snr (getD (rowOf t sb) j 0))
-    (row-snr t sb i) (row-snr t sb j) (row-rises t sb i j l h)
 
 pub row-snr-le : (t : BitAllocTable) (sb i j : ℕ) → i ≤ j → j < length (rowOf t sb)
   → T (le (snr (getD (rowOf t sb) i 0)) (snr (getD (rowOf t sb) j 0)))
