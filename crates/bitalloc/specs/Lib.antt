@@ -3,4 +3,3 @@ pub mod Tables
 pub mod Storage
 pub mod Changes
 pub mod Select
-pub mod Classes

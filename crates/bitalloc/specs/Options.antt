@@ -7,9 +7,6 @@ use Rattle.bitalloc.specs.declared.OptionU32.the-variants as U32
 use Rattle.bitalloc.specs.declared.BitAllocTable.{BitAllocTable}
 use Rattle.bitalloc.specs.declared.OptionTable.{OptionTable}
 use Rattle.bitalloc.specs.declared.OptionTable.the-variants as Table
-use Rattle.bitalloc.specs.declared.QuantClass.{QuantClass}
-use Rattle.bitalloc.specs.declared.OptionClass.{OptionClass}
-use Rattle.bitalloc.specs.declared.OptionClass.the-variants as Class
 
 -- whether there is a value
 abbrev pub isSome : {A : Type 0} → Option A → Bool
@@ -23,7 +20,3 @@ numberIn U32.None = none
 abbrev pub tableIn : OptionTable → Option BitAllocTable
 tableIn (Table.Some t) = some t
 tableIn Table.None = none
-
-abbrev pub classIn : OptionClass → Option QuantClass
-classIn (Class.Some q) = some q
-classIn Class.None = none

@@ -16,8 +16,8 @@ use Rattle.bitalloc.specs.declared.OptionU32.{OptionU32}
 use Rattle.bitalloc.specs.declared.OptionU32.the-variants as U32
 use Rattle.header.specs.Questions.{number}
 use Rattle.bitalloc.specs.Options.{isSome, numberIn}
-use Rattle.bitalloc.specs.declared.QuantClass.{QuantClass}
-use Rattle.bitalloc.specs.Classes.{bitsPerSample}
+use Rattle.quantization.specs.declared.QuantClass.{QuantClass}
+use Rattle.quantization.specs.Classes.{bitsPerSample}
 use Rattle.audio_data.specs.Scfsi.{codeOf}
 use Rattle.encoder_scfsi.specs.declared.ScfsiSelection.{ScfsiSelection}
 use Rattle.encoder_scfsi.specs.Class.{classNumber}

@@ -11,11 +11,11 @@ use Rattle.header.specs.declared.FrameHeader.{FrameHeader}
 use Rattle.header.specs.Questions.{Question, number}
 use Rattle.header.specs.Header.{frameSize}
 use Rattle.bitalloc.specs.declared.BitAllocTable.{BitAllocTable}
-use Rattle.bitalloc.specs.declared.QuantClass.{QuantClass}
+use Rattle.quantization.specs.declared.QuantClass.{QuantClass}
 use Rattle.bitalloc.specs.Options.{isSome}
 use Rattle.bitalloc.specs.Select.{tableOf}
 use Rattle.bitalloc.specs.Tables.{tableNumber, sblimitOf, nbalOf, stepsAt, indexOf}
-use Rattle.bitalloc.specs.Classes.{classOf, bitsPerSample}
+use Rattle.quantization.specs.Classes.{classOf, bitsPerSample}
 use Rattle.tables.specs.Listed.{tabulate}
 use Rattle.audio_data.specs.Scfsi.{codeOf}
 use Rattle.encoder_scalefactors.specs.Indices.{indexFrom, indicesOf}

@@ -2,11 +2,13 @@
 ghost use mathlib.Core.Path.{_≡_};
 ghost use mathlib.Core.Bool.{cond};
 ghost use Rattle.header.specs.Header.{sizeOf};
-ghost use Rattle.bitalloc.specs.Options.{isSome, tableIn, classIn};
+ghost use Rattle.bitalloc.specs.Options.{isSome, tableIn};
+ghost use Rattle.quantization.specs.Classes.{classIn};
 ghost use Rattle.encoder_samples.specs.Entries.{codedOf};
 ghost use Rattle.encoder_bit_demand.specs.Snr.{snrIn};
 ghost use Rattle.c_answers.specs.Replies.{tableOr, limitsOf, allocationValues, classOr, figuresOf, snrOr, tripletValues, selectionValues};
-use bitalloc::{BitAllocTable, OptionClass, OptionTable};
+use bitalloc::{BitAllocTable, OptionTable};
+use quantization::OptionClass;
 use encoder_bit_allocator::Allocation;
 use encoder_bit_demand::OptionF64;
 use encoder_samples::{SampleCode, Triplet};

@@ -15,7 +15,7 @@ use Rattle.tables.proofs.Listed.{tabulated, length-tabulate}
 use Rattle.ieee_order.specs.Order.{minOf}
 use Rattle.bitalloc.specs.Tables.{rowOf}
 use Rattle.bitalloc.specs.Storage.{rowOf16}
-use Rattle.bitalloc.specs.Classes.{sampleBits, SampleBitsAre}
+use Rattle.quantization.specs.Classes.{sampleBits, SampleBitsAre}
 use Rattle.bitalloc.proofs.RowLaws.{row-number, places-small}
 use Rattle.layout.specs.declared.Layout.{Layout}
 use Rattle.layout.specs.declared.AllocationField.{AllocationField}

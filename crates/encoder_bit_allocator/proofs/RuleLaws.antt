@@ -19,7 +19,7 @@ use Rattle.ieee_order.proofs.Difference.{sub-mono, sub-number, neg-le-sub}
 use Rattle.ieee_order.proofs.Extremes.{min-mono, min-number}
 use Rattle.bitalloc.specs.declared.BitAllocTable.{BitAllocTable}
 use Rattle.bitalloc.specs.Tables.{rowOf, sblimitOf}
-use Rattle.bitalloc.specs.Classes.{sampleBits}
+use Rattle.quantization.specs.Classes.{sampleBits}
 use Rattle.bitalloc.proofs.RowLaws.{row-rule, places-small}
 use Rattle.encoder_bit_demand.specs.Snr.{snr}
 use Rattle.encoder_bit_demand.proofs.RowSnr.{row-snr-rule, row-snr-le, row-bits-rise}

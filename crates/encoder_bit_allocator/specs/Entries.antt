@@ -10,7 +10,7 @@ use Rattle.tables.specs.Listed.{tabulate}
 use Rattle.ieee_order.specs.Order.{minOf}
 use Rattle.bitalloc.specs.declared.BitAllocTable.{BitAllocTable}
 use Rattle.bitalloc.specs.Tables.{rowOf}
-use Rattle.bitalloc.specs.Classes.{sampleBits}
+use Rattle.quantization.specs.Classes.{sampleBits}
 use Rattle.layout.specs.declared.Layout.{Layout}
 use Rattle.layout.specs.declared.AllocationField.{AllocationField}
 use Rattle.layout.specs.Layout.{fieldsOf, fieldIn}

@@ -66,7 +66,7 @@ pub fn charge(nb_steps: u32, first_step: u32) -> u64
     if nb_steps == 0 {
         return 0;
     }
-    (bitalloc::sample_bits_for(nb_steps) as u64) + (first_step as u64)
+    (quantization::sample_bits_for(nb_steps) as u64) + (first_step as u64)
 }
 
 // The ratios and charges of one field: those at the places of its row, from entry 16 * number on.

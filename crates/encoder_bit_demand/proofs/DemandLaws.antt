@@ -19,7 +19,7 @@ use Rattle.bitalloc.specs.declared.BitAllocTable.{BitAllocTable}
 use Rattle.bitalloc.specs.Tables.{rowOf, sblimitOf}
 use Rattle.bitalloc.specs.Storage.{rowOf16}
 use Rattle.bitalloc.proofs.RowLaws.{some-place, places-small}
-use Rattle.bitalloc.specs.Classes.{sampleBits}
+use Rattle.quantization.specs.Classes.{sampleBits}
 use Rattle.tables.proofs.Search.{find-found, find-missing}
 use Rattle.header.specs.declared.FrameHeader.{FrameHeader}
 use Rattle.layout.specs.declared.Layout.{Layout}

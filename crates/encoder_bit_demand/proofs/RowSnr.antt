@@ -18,9 +18,9 @@ use Rattle.tables.proofs.Rule.{first, second, all, all-at, allBelow, below}
 use Rattle.tables.proofs.Search.{find-passes}
 use Rattle.bitalloc.specs.declared.BitAllocTable.{BitAllocTable}
 use Rattle.bitalloc.specs.declared.BitAllocTable.the-variants.{B2a, B2b, B2c, B2d, B1Lsf}
-use Rattle.bitalloc.specs.declared.QuantClass.{QuantClass}
+use Rattle.quantization.specs.declared.QuantClass.{QuantClass}
 use Rattle.bitalloc.specs.Tables.{rowOf, sblimitOf}
-use Rattle.bitalloc.specs.Classes.{classes, classOf, sampleBits, frameBits}
+use Rattle.quantization.specs.Classes.{classes, classOf, sampleBits, frameBits}
 use Rattle.bitalloc.proofs.RowLaws.{row-rule, row-rises, no-row}
 use Rattle.encoder_bit_demand.specs.Snr.{snrOf, snr, orNan}
 use Rattle.bitalloc.specs.Options.{isSome}

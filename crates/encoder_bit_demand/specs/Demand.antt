@@ -13,7 +13,7 @@ use Rattle.ieee_order.specs.Order.{maxOf}
 use Rattle.header.specs.declared.FrameHeader.{FrameHeader}
 use Rattle.bitalloc.specs.declared.BitAllocTable.{BitAllocTable}
 use Rattle.bitalloc.specs.Tables.{rowOf}
-use Rattle.bitalloc.specs.Classes.{sampleBits}
+use Rattle.quantization.specs.Classes.{sampleBits}
 use Rattle.tables.specs.Search.{find}
 use Rattle.layout.specs.declared.Layout.{Layout}
 use Rattle.layout.specs.declared.AllocationField.{AllocationField}

@@ -173,7 +173,7 @@ fn needed_bits(row: &[u32; 16], places: usize, smr: f64, first_step: u32) -> u64
         return 0;
     }
     let steps = needed_steps(row, places, smr);
-    (bitalloc::sample_bits_for(steps) + first_step) as u64
+    (quantization::sample_bits_for(steps) + first_step) as u64
 }
 
 // The steps at the first place above 0 whose signal-to-noise ratio reaches `smr`, or at the top place.

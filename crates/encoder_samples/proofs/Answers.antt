@@ -7,8 +7,8 @@ use native.Mathlib.Nat.{lt-of-lt-of-le}
 use lib.Dec.{lit≤, lit<}
 use lib.Pow.{pow-mono}
 use lib.Ieee.{Float}
-use Rattle.bitalloc.specs.declared.QuantClass.{QuantClass}
-use Rattle.bitalloc.specs.Classes.{classOf, ClassRule}
+use Rattle.quantization.specs.declared.QuantClass.{QuantClass}
+use Rattle.quantization.specs.Classes.{classOf, ClassRule}
 use Rattle.encoder_samples.specs.declared.SampleCode.the-variants.{Code, NoClass}
 use Rattle.encoder_samples.specs.declared.Triplet.{Triplet}
 use Rattle.encoder_samples.specs.Samples.{quantized, triplet}

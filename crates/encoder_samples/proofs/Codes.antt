@@ -10,8 +10,8 @@ use lib.Pow.{pow-mono, pow-pos}
 use lib.ListN.{getD}
 use lib.Ieee.{Float, nan, inf, fin}
 use lib.Ieee.Digits.{size-lt, size-le}
-use Rattle.bitalloc.specs.declared.QuantClass.{QuantClass}
-use Rattle.bitalloc.specs.Classes.{bitsPerSample, BitsPerSampleAre, ClassRule}
+use Rattle.quantization.specs.declared.QuantClass.{QuantClass}
+use Rattle.quantization.specs.Classes.{bitsPerSample, BitsPerSampleAre, ClassRule}
 use Rattle.encoder_samples.specs.declared.Triplet.{Triplet}
 use Rattle.encoder_samples.specs.Samples.{half, clamped, codeTo, lastCode, quantized}
 use Rattle.encoder_samples.specs.Half.{HalfIs}

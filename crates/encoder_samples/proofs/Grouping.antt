@@ -7,7 +7,7 @@ use native.Mathlib.Nat.{mul-le-mul, mod-add-div, add-mul-mod-self-left}
 use native.Mathlib.Omega.{arith}
 use lib.ListN.{getD}
 use lib.Ieee.{Float, nan}
-use Rattle.bitalloc.specs.declared.QuantClass.{QuantClass}
+use Rattle.quantization.specs.declared.QuantClass.{QuantClass}
 use Rattle.encoder_samples.specs.Samples.{quantized, combined, oneCodeword, threeCodewords, triplet}
 
 -- a product of two 32-bit numbers and one more fit 64 bits

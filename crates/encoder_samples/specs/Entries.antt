@@ -9,9 +9,9 @@ use lib.Ieee.{Float}
 use lib.ListN.{getD}
 use Rattle.header.specs.Questions.{Question, number}
 use Rattle.header.specs.Header.{whereAccepted}
-use Rattle.bitalloc.specs.declared.QuantClass.{QuantClass}
+use Rattle.quantization.specs.declared.QuantClass.{QuantClass}
 use Rattle.bitalloc.specs.Options.{isSome}
-use Rattle.bitalloc.specs.Classes.{classOf}
+use Rattle.quantization.specs.Classes.{classOf}
 use Rattle.encoder_samples.specs.declared.SampleCode.{SampleCode}
 use Rattle.encoder_samples.specs.declared.SampleCode.the-variants.{Code, NoClass}
 use Rattle.encoder_samples.specs.declared.Triplet.{Triplet}

@@ -8,8 +8,8 @@ use mathlib.Core.List.{List, [], _∷_}
 use lib.IntN.{ℤ, pos}
 use lib.ListN.{getD}
 use lib.Ieee.{Float, nan, inf, fin, binary64, up, down, div, sub, mul, ofInt}
-use Rattle.bitalloc.specs.declared.QuantClass.{QuantClass}
-use Rattle.bitalloc.specs.Classes.{bitsPerSample}
+use Rattle.quantization.specs.declared.QuantClass.{QuantClass}
+use Rattle.quantization.specs.Classes.{bitsPerSample}
 use Rattle.encoder_samples.specs.declared.Triplet.{Triplet}
 
 -- h, for a number of steps; n is the bits per sample (where it is 0, which no class has, h is 1)

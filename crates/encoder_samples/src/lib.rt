@@ -5,8 +5,8 @@ ghost use Prim.Native.Nat.{_+_, _-_, _*_, _%_, _^_, min};
 ghost use Rattle.encoder_samples.specs.Samples.{clamped, codeTo, lastCode, quantized, combined, triplet, NearestIs};
 ghost use Rattle.encoder_samples.specs.Entries.{SampleCodeIs, TripletIs};
 ghost use Rattle.encoder_samples.specs.Half.{HalfIs};
-use bitalloc::OptionClass;
-use bitalloc::QuantClass;
+use quantization::OptionClass;
+use quantization::QuantClass;
 
 // The code of a sample, given as s'' (divided by its scalefactor), in a class of quantization.
 pub fn quantize_sample(class: QuantClass, s_double_prime: f64) -> u32
@@ -153,7 +153,7 @@ pub enum SampleCode {
 pub fn quantize_sample_for(nb_steps: u32, s_double_prime: f64) -> SampleCode
     ensures { λ r. ⌜ SampleCodeIs «nb_steps» «s_double_prime» r ⌝ }
 {
-    let found = bitalloc::class_of_quantization(nb_steps);
+    let found = quantization::class_of_quantization(nb_steps);
     let OptionClass::Some(class) = found else {
         return SampleCode::NoClass;
     };
@@ -170,7 +170,7 @@ pub struct TripletAnswer {
 pub fn write_triplet_for(nb_steps: u32, s_double_primes: [f64; 3]) -> TripletAnswer
     ensures { λ r. ⌜ TripletIs «nb_steps» «s_double_primes» r ⌝ }
 {
-    let found = bitalloc::class_of_quantization(nb_steps);
+    let found = quantization::class_of_quantization(nb_steps);
     let OptionClass::Some(class) = found else {
         let triplet = Triplet {
             count: 0,

@@ -3,7 +3,7 @@ ghost use mathlib.Core.Bool.{_||_};
 ghost use mathlib.Core.Option.{some};
 ghost use lib.Dec.{ltb};
 ghost use lib.ListN.{length};
-ghost use Rattle.bitalloc.specs.Classes.{SampleBitsAre};
+ghost use Rattle.quantization.specs.Classes.{SampleBitsAre};
 ghost use Rattle.c_answers.specs.Answers.{asked, answered, Answers};
 ghost use Rattle.c_answers.specs.Arguments.{tableMeant};
 ghost use Rattle.c_answers.specs.Replies.{limitsAt, stepsFound, indexFound, coefficients, classFigures, snrFound};
@@ -100,7 +100,7 @@ pub extern "C" fn folgrist_class_of_quantization(steps: u32, cd: &mut [f64], out
     if (cd.len() < 2) | (out.len() < 4) {
         return 98;
     }
-    let found = bitalloc::class_of_quantization(steps);
+    let found = quantization::class_of_quantization(steps);
     cd[0] = parts::coefficient_c(found);
     cd[1] = parts::coefficient_d(found);
     let figures = parts::figures(found);
@@ -113,7 +113,7 @@ pub extern "C" fn folgrist_class_of_quantization(steps: u32, cd: &mut [f64], out
 pub extern "C" fn folgrist_sample_bits_for(steps: u32) -> u32
     ensures { λ r. ⌜ SampleBitsAre steps r ⌝ }
 {
-    bitalloc::sample_bits_for(steps)
+    quantization::sample_bits_for(steps)
 }
 
 // The signal-to-noise ratio of a number of steps.

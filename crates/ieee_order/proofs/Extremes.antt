@@ -19,6 +19,9 @@ chosen-keeps t P a b p q = go (isNan a) (isNan b) t
     go false false true = q
     go false false false = p
 
+chosen-of-nan : (t : Bool) (a b : Float) → isNan a ≡ true → chosenOf t a b ≡ b
+chosen-of-nan t a b p = rw p
+
 chosen-and-nan : (t : Bool) (a b : Float) → isNan b ≡ true → chosenOf t a b ≡ a
 unfolding isNan
 chosen-and-nan t nan nan p = refl
@@ -52,6 +55,17 @@ pub min-keeps : (P : Float → Type 0) (a b : Float) → P a → P b → P (minO
 unfolding minOf
 min-keeps P a b = chosen-keeps (lt b a) P a b
 
+pub min-picks : (a b : Float) → (minOf a b ≡ a) ⊎ (minOf a b ≡ b)
+min-picks a b = min-keeps (λ z. (z ≡ a) ⊎ (z ≡ b)) a b (inl refl) (inr refl)
+
+pub min-of-nan : (a b : Float) → isNan a ≡ true → minOf a b ≡ b
+unfolding minOf
+min-of-nan a b = chosen-of-nan (lt b a) a b
+
+pub min-and-nan : (a b : Float) → isNan b ≡ true → minOf a b ≡ a
+unfolding minOf
+min-and-nan a b = chosen-and-nan (lt b a) a b
+
 pub min-le-first : (a b : Float) → isNan a ≡ false → T (le (minOf a b) a)
 unfolding minOf
 min-le-first a b p =
@@ -64,6 +78,9 @@ min-le-second a b p =
 
 pub min-number : (a b : Float) → isNan a ≡ false → isNan (minOf a b) ≡ false
 min-number a b p = le-numbers (minOf a b) a (min-le-first a b p) .0
+
+pub min-number-second : (a b : Float) → isNan b ≡ false → isNan (minOf a b) ≡ false
+min-number-second a b p = le-numbers (minOf a b) b (min-le-second a b p) .0
 
 pub min-mono : (a a′ b b′ : Float) → T (le a a′) → T (le b b′) → T (le (minOf a b) (minOf a′ b′))
 min-mono a a′ b b′ h k =
@@ -79,6 +96,10 @@ max-keeps P a b = chosen-keeps (lt a b) P a b
 
 pub max-picks : (a b : Float) → (maxOf a b ≡ a) ⊎ (maxOf a b ≡ b)
 max-picks a b = max-keeps (λ z. (z ≡ a) ⊎ (z ≡ b)) a b (inl refl) (inr refl)
+
+pub max-of-nan : (a b : Float) → isNan a ≡ true → maxOf a b ≡ b
+unfolding maxOf
+max-of-nan a b = chosen-of-nan (lt a b) a b
 
 pub max-and-nan : (a b : Float) → isNan b ≡ true → maxOf a b ≡ a
 unfolding maxOf
@@ -96,3 +117,6 @@ le-max-second a b p =
 
 pub max-number : (a b : Float) → isNan a ≡ false → isNan (maxOf a b) ≡ false
 max-number a b p = le-numbers a (maxOf a b) (le-max-first a b p) .1
+
+pub max-number-second : (a b : Float) → isNan b ≡ false → isNan (maxOf a b) ≡ false
+max-number-second a b p = le-numbers b (maxOf a b) (le-max-second a b p) .1

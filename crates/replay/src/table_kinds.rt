@@ -5,10 +5,10 @@ use crate::arguments::OptionHeader;
 use crate::arguments::header_of;
 use crate::arguments::u32_of;
 use bitalloc::BitAllocTable;
-use bitalloc::OptionClass;
+use quantization::OptionClass;
 use bitalloc::OptionTable;
 use bitalloc::OptionU32;
-use bitalloc::QuantClass;
+use quantization::QuantClass;
 use header::FrameSize;
 use header::Mode;
 use header::ModeExtension;
@@ -143,7 +143,7 @@ pub fn class_of_quantization(count: usize, numbers: &[u64; 256]) -> Verdict {
     let OptionU32::Some(steps) = u32_of(numbers[1]) else {
         return Verdict::Unread;
     };
-    let answers = class_numbers(bitalloc::class_of_quantization(steps));
+    let answers = class_numbers(quantization::class_of_quantization(steps));
     verdict_of(count == 8, same_numbers(numbers, 2, &answers))
 }
 
@@ -166,7 +166,7 @@ pub fn is_grouped(count: usize, numbers: &[u64; 256]) -> Verdict {
     let OptionU32::Some(steps) = u32_of(numbers[1]) else {
         return Verdict::Unread;
     };
-    verdict_of(count == 3, flag(bitalloc::is_grouped(steps)) == numbers[2])
+    verdict_of(count == 3, flag(quantization::is_grouped(steps)) == numbers[2])
 }
 
 // Steps -> bits, of a class with these steps; the other fields play no part.
@@ -192,7 +192,7 @@ pub fn sample_bits_for(count: usize, numbers: &[u64; 256]) -> Verdict {
     };
     verdict_of(
         count == 3,
-        bitalloc::sample_bits_for(steps) as u64 == numbers[2],
+        quantization::sample_bits_for(steps) as u64 == numbers[2],
     )
 }
 

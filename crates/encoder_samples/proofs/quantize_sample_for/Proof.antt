@@ -1,7 +1,7 @@
 -- `encoder_samples::quantize_sample_for` meets its contract: a class that is found keeps the rule, so its codes are in range.
 use borrow.Author.Needs.{needs}
 use mathlib.Core.Path.{sym, ap, _∙_}
-use Rattle.bitalloc.specs.Options.{classIn}
+use Rattle.quantization.specs.Classes.{classIn}
 use Rattle.encoder_samples.proofs.Answers.{no-code, some-code}
 use Rattle.encoder_samples.proofs.quantize_sample_for.Statement.{statement}
 use Rattle.encoder_samples.proofs.quantize_sample_for.Tie as tie

@@ -1,7 +1,7 @@
 -- `encoder_samples::write_triplet_for` meets its contract: a class that is found keeps the rule, so its codewords are held by their bits.
 use borrow.Author.Needs.{needs}
 use mathlib.Core.Path.{sym, ap, _∙_}
-use Rattle.bitalloc.specs.Options.{classIn}
+use Rattle.quantization.specs.Classes.{classIn}
 use Rattle.encoder_samples.proofs.Answers.{no-triplet, some-triplet}
 use Rattle.encoder_samples.proofs.write_triplet_for.Statement.{statement}
 use Rattle.encoder_samples.proofs.write_triplet_for.Tie as tie

@@ -11,7 +11,7 @@ use Rattle.bitalloc.specs.declared.BitAllocTable.the-variants.{B2c}
 use Rattle.tables.specs.Scalefactors.{scalefactors}
 use Rattle.tables.specs.Search.{oneOf}
 use Rattle.bitalloc.specs.Tables.{nbalOf, rowOf}
-use Rattle.bitalloc.specs.Classes.{sampleBits}
+use Rattle.quantization.specs.Classes.{sampleBits}
 use Rattle.bitalloc.specs.Select.{tableOf}
 use Rattle.layout.specs.declared.Layout.{Layout}
 use Rattle.layout.specs.Layout.{layoutOf, fieldsOf}

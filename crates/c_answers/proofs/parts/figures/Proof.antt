@@ -1,7 +1,7 @@
 -- `c_answers::parts::figures` meets its contract: the class's, or zeros.
 use borrow.Author.Needs.{needs}
 use Rattle.c_answers.proofs.AnswerLaws.{figures-listed}
-use Rattle.bitalloc.specs.Classes.{bitsPerSample}
+use Rattle.quantization.specs.Classes.{bitsPerSample}
 use Rattle.c_answers.proofs.parts.figures.Statement.{statement}
 use Rattle.c_answers.proofs.parts.figures.Tie as tie
 

@@ -1,11 +1,11 @@
--- `bitalloc::sample_bits_for` meets its contract: antt computes the bits at the keys, and no other steps have a class.
+-- `quantization::sample_bits_for` meets its contract: antt computes the bits at the keys, and no other steps have a class.
 use borrow.Author.Needs.{needs}
 use mathlib.Core.Path.{refl}
 use lib.Count.{leading-le}
-use Rattle.bitalloc.specs.Classes.{sampleBits}
-use Rattle.bitalloc.proofs.ClassLaws.{bits-are, single-bits, no-bits}
-use Rattle.bitalloc.proofs.sample_bits_for.Statement.{statement}
-use Rattle.bitalloc.proofs.sample_bits_for.Tie as tie
+use Rattle.quantization.specs.Classes.{sampleBits}
+use Rattle.quantization.proofs.ClassLaws.{bits-are, single-bits, no-bits}
+use Rattle.quantization.proofs.sample_bits_for.Statement.{statement}
+use Rattle.quantization.proofs.sample_bits_for.Tie as tie
 
 sub-result : tie.Need-sub-result
 sub-result c = leading-le 32 _

@@ -1,9 +1,9 @@
--- `bitalloc::QuantClass::bits_per_sample` meets its contract: what is left of 32 digits without the leading zeros.
+-- `quantization::QuantClass::bits_per_sample` meets its contract: what is left of 32 digits without the leading zeros.
 use borrow.Author.Needs.{needs}
 use lib.Count.{leading-le}
-use Rattle.bitalloc.proofs.ClassLaws.{bits-counted, no-steps}
-use Rattle.bitalloc.proofs.QuantClass.bits_per_sample.Statement.{statement}
-use Rattle.bitalloc.proofs.QuantClass.bits_per_sample.Tie as tie
+use Rattle.quantization.proofs.ClassLaws.{bits-counted, no-steps}
+use Rattle.quantization.proofs.QuantClass.bits_per_sample.Statement.{statement}
+use Rattle.quantization.proofs.QuantClass.bits_per_sample.Tie as tie
 
 returns : tie.Need-returns
 returns c = no-steps _ (c .if1 .taken)

@@ -1,12 +1,12 @@
--- `bitalloc::is_grouped` meets its contract: antt computes the column at the keys, and no other class is grouped.
+-- `quantization::is_grouped` meets its contract: antt computes the column at the keys, and no other class is grouped.
 use mathlib.Core.Path.{_≡_, refl}
 use mathlib.Core.Bool.{true}
 use mathlib.Core.List.{[], _∷_}
 use Rattle.tables.proofs.Keys.{at-key, no-key}
-use Rattle.bitalloc.specs.Classes.{grouped}
-use Rattle.bitalloc.proofs.ClassLaws.{not-grouped}
-use Rattle.bitalloc.proofs.is_grouped.Statement.{statement}
-use Rattle.bitalloc.proofs.is_grouped.Tie as tie
+use Rattle.quantization.specs.Classes.{grouped}
+use Rattle.quantization.proofs.ClassLaws.{not-grouped}
+use Rattle.quantization.proofs.is_grouped.Statement.{statement}
+use Rattle.quantization.proofs.is_grouped.Tie as tie
 
 returns : tie.Need-returns
 unfolding grouped

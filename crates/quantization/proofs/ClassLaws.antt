@@ -17,10 +17,9 @@ use Rattle.tables.proofs.Rule.{first, second, all}
 use Rattle.tables.proofs.Search.{find-found, find-missing, find-passes, none-passes}
 use Rattle.tables.proofs.Keys.{Each, at-key, no-key}
 use types.Run.{OneOf}
-use Rattle.bitalloc.specs.declared.QuantClass.{QuantClass}
-use Rattle.bitalloc.specs.declared.OptionClass.the-variants.{Some, None}
-use Rattle.bitalloc.specs.Options.{classIn}
-use Rattle.bitalloc.specs.Classes.{classes, classOf, ClassRule, ClassIs, BitsPerSampleAre, SampleBitsAre, sampleBits, frameBits, grouped, groupingIn, bitsPerSample}
+use Rattle.quantization.specs.declared.QuantClass.{QuantClass}
+use Rattle.quantization.specs.declared.OptionClass.the-variants.{Some, None}
+use Rattle.quantization.specs.Classes.{classes, classIn, classOf, ClassRule, ClassIs, BitsPerSampleAre, SampleBitsAre, sampleBits, frameBits, grouped, groupingIn, bitsPerSample}
 
 -- the rule as one test
 ruled : QuantClass → Bool

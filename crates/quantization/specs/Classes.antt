@@ -8,10 +8,9 @@ use lib.Dec.{eqb}
 use lib.Ieee.{size}
 use Rattle.tables.specs.Decimal.{decimal}
 use Rattle.tables.specs.Search.{find}
-use Rattle.bitalloc.specs.declared.QuantClass.{QuantClass}
-use Rattle.bitalloc.specs.declared.OptionClass.{OptionClass}
-use Rattle.bitalloc.specs.declared.OptionClass.the-variants.{Some}
-use Rattle.bitalloc.specs.Options.{classIn}
+use Rattle.quantization.specs.declared.QuantClass.{QuantClass}
+use Rattle.quantization.specs.declared.OptionClass.{OptionClass}
+use Rattle.quantization.specs.declared.OptionClass.the-variants.{Some, None}
 
 -- a row of the table: number of steps, C, D, grouping, samples per codeword, bits per codeword; C and D have eleven decimal places
 unfoldable pub class : ℕ → ℕ → ℕ → Bool → ℕ → ℕ → QuantClass
@@ -46,6 +45,11 @@ classes =
     ∷ class 32767 1_00003051851 0_00006103516 false 1 15
     ∷ class 65535 1_00001525902 0_00003051758 false 1 16
     ∷ []
+
+-- what the code's enum of a class or nothing stands for
+abbrev pub classIn : OptionClass → Option QuantClass
+classIn (Some q) = some q
+classIn None = none
 
 -- the class of a number of steps
 unfoldable pub classOf : ℕ → Option QuantClass

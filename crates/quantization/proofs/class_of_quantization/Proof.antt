@@ -1,4 +1,4 @@
--- `bitalloc::class_of_quantization` meets its contract. The loop's invariant: no class that was passed has the steps.
+-- `quantization::class_of_quantization` meets its contract. The loop's invariant: no class that was passed has the steps.
 use Prim.Native.Nat.{ℕ, _≤_, _<_, _-_}
 use mathlib.Core.Path.{_≡_}
 use native.Mathlib.Omega.{arith}
@@ -7,10 +7,10 @@ use lib.Ieee.{nan}
 use mathlib.Core.Bool.{false}
 use borrow.Author.Needs.{needs}
 use borrow.Author.Count.{below-more}
-use Rattle.bitalloc.specs.declared.QuantClass.{QuantClass}
-use Rattle.bitalloc.proofs.ClassLaws.{class-found, class-missing}
-use Rattle.bitalloc.proofs.class_of_quantization.Statement.{statement}
-use Rattle.bitalloc.proofs.class_of_quantization.Tie as tie
+use Rattle.quantization.specs.declared.QuantClass.{QuantClass}
+use Rattle.quantization.proofs.ClassLaws.{class-found, class-missing}
+use Rattle.quantization.proofs.class_of_quantization.Statement.{statement}
+use Rattle.quantization.proofs.class_of_quantization.Tie as tie
 
 -- what an index past the table would read
 abbrev blank : QuantClass
