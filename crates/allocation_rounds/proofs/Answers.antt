@@ -1,5 +1,5 @@
--- The answers and their bounds: what the scan finds is among the 64 and below place 15; a round and a run leave no more bits and keep places
--- below 16; and a loop of rounds keeps to the end.
+-- The answers and their bounds: what the scan finds is among the 64 and below place 15; a round and a run leave no more bits; and a loop of
+-- rounds keeps to the end.
 use mathlib.Core.Path.{_≡_, sym, ap, _∙_}
 use mathlib.Core.Bool.{Bool, true, false}
 use mathlib.Core.List.{List, []}
@@ -54,44 +54,25 @@ module _ (places : List ℕ) (closed : List Bool) (fields : ℕ) (tops : List �
 
 -- ---- a run goes on
 
-module _ (R : Rules) (tops : (f : ℕ) → R .top f ≤ 15) (s : Run) (fit : R .fields ≤ length (s .places)) where
-  -- from s: every field has its place, no more bits are left, and a place below 16 is below 16
+module _ (R : Rules) (s : Run) where
+  -- from s: no more bits are left
   abbrev Bounded : Run → Type 0
-  Bounded t = (R .fields ≤ length (t .places)) × (t .left ≤ s .left) × ((f : ℕ) → placeIn (s .places) f < 16 → placeIn (t .places) f < 16)
-
-  bounded : Bounded s
-  bounded = (fit, omega arith, λ f h. h)
-
-  raised : (t : Run) (f : ℕ) (r : Float) → PickedIn R t f r → Bounded t → Bounded (raiseAt R f t)
-  raised t f r pick b =
-      let low = picked-open R t f r pick .1 in
-      let top = tops f in
-      let below = pick .below in
-      let long = b .0 in
-      let less = b .1 in (
-        rw (length-set (t .places) f (placeIn (t .places) f + 1)) long,
-        omega arith,
-        either (λ k. placeIn (s .places) k < 16 → placeIn (raiseAt R f t .places) k < 16) f
-            (λ h. rw (raise-here R t f (omega arith)) (omega arith)) (λ k ne h. rw (raise-else R t f k ne) (b .2 k h)),
-      )
+  Bounded t = t .left ≤ s .left
 
   onward : (t r : Run) → Bounded t → r ≡ t → Onward s t r
-  onward t r b e = record { whole = e; less = rw e (b .1); small = λ f h. rw e (b .2 f h) }
+  onward t r b e = record { whole = e; less = rw e b }
 
   onward-round : (r : Run) → r ≡ round R s → Onward s (round R s) r
-  onward-round r = onward (round R s) r (round-keeps R Bounded (λ t f r k b l. raised t f r k b) (λ t f r k b l. b) s bounded)
+  onward-round r = onward (round R s) r (round-keeps R Bounded (λ t f r k b l. omega arith) (λ t f r k b l. b) s (omega arith))
 
   onward-ended : (r : Run) → r ≡ ended R s → Onward s (ended R s) r
-  onward-ended r = onward (ended R s) r (ended-keeps R Bounded (λ t f r k b l. raised t f r k b) (λ t f r k b l. b) s bounded)
+  onward-ended r = onward (ended R s) r (ended-keeps R Bounded (λ t f r k b l. omega arith) (λ t f r k b l. b) s (omega arith))
 
 -- by the rules that are lent, from a state of 64 places whose candidate was found
 module _ (fields : ℕ) (tops : List ℕ) (mnrs : List Float) (charges : List ℕ) (s : Run) (long : length (s .places) ≡ 64)
     (c : Candidate) (found : BestIs (s .places) (s .closed) fields tops mnrs c) where
   abbrev rules : Rules
   rules = lent fields tops mnrs charges
-
-  capped : (f : ℕ) → min (getD tops f 0) 15 ≤ 15
-  capped f = omega arith
 
   fits : min fields 64 ≤ length (s .places)
   fits = omega arith
@@ -100,14 +81,14 @@ module _ (fields : ℕ) (tops : List ℕ) (mnrs : List Float) (charges : List �
   is-candidate d e = sym (found .whole charges) ∙ e
 
   pub step-over : c ≡ Nobody → Onward s (round rules s) s
-  step-over e = onward-round rules capped s fits s (sym (round-nobody rules s (is-candidate Nobody e)))
+  step-over e = onward-round rules s s (sym (round-nobody rules s (is-candidate Nobody e)))
 
   -- a loop of rounds from s₀ has come to s
   pub loop-over : (s₀ : Run) → length (s₀ .places) ≡ 64 → ended rules s ≡ ended rules s₀ → c ≡ Nobody → Finished rules s₀ s
   loop-over s₀ l same e =
       let whole : s ≡ ended rules s₀ = sym (ended-nobody rules s (is-candidate Nobody e)) ∙ same in
       record {
-        onward = onward-ended rules capped s₀ (omega arith) s whole;
+        onward = onward-ended rules s₀ s whole;
         steps = λ k h. whole ∙ ended-repeated rules s₀ (omega arith) k h
       }
 
@@ -118,7 +99,7 @@ module _ (fields : ℕ) (tops : List ℕ) (mnrs : List Float) (charges : List �
     is-taken = t ∙ ap (λ (n : ℕ). takenBy f n s) p
 
     pub step-on : Onward s (round rules s) r
-    step-on = onward-round rules capped s fits r (is-taken ∙ sym (round-taken rules s f q (is-candidate (Field f q) e)))
+    step-on = onward-round rules s r (is-taken ∙ sym (round-taken rules s f q (is-candidate (Field f q) e)))
 
     pub loop-falls : roomIn rules r < roomIn rules s
     loop-falls = rw is-taken (taken-falls rules s f q fits (is-candidate (Field f q) e))

@@ -15,11 +15,10 @@ pub record BestIs (places : List ℕ) (closed : List Bool) (fields : ℕ) (tops 
   pub whole : (charges : List ℕ) → r ≡ best (lent fields tops mnrs charges) places closed (min fields 64)
   pub inside : (f : ℕ) (q : Float) → r ≡ Field f q → (f < 64) × (placeIn places f < 15)
 
--- the state that a run goes on to: not more bits are left than before, and a place below 16 stays below 16
+-- the state that a run goes on to: not more bits are left than before
 pub record Onward (s next r : Run) : Type 0 where
   pub whole : r ≡ next
   pub less : r .left ≤ s .left
-  pub small : (f : ℕ) → placeIn (s .places) f < 16 → placeIn (r .places) f < 16
 
 -- the end of a run: what rounds come to, repeated as often as there are places above the fields that wait, or oftener
 pub record Finished (R : Rules) (s r : Run) : Type 0 where

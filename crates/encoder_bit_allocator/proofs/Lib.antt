@@ -1,7 +1,4 @@
-pub mod HeldLaws
-pub mod RuleLaws
-pub mod LaidLaws
 pub mod CostLaws
-pub mod RunLaws
+pub mod StandingLaws
 pub mod WorthLaws
 pub mod AnswerLaws

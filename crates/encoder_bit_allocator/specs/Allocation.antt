@@ -28,20 +28,6 @@ use Rattle.allocation_rounds.specs.Promises.{Over, Accounted, Spent, Exchanged}
 use Rattle.encoder_bit_allocator.specs.declared.Allocation.{Allocation}
 use Rattle.encoder_bit_allocator.specs.Entries.{rulesOf, entriesOf, worstCase}
 
--- ---- from the places that the fields reach to the steps of the slots
-
--- the steps of a slot: those at the place of the field that serves it, and 0 where none does
-abbrev pub stepsBy : BitAllocTable → List ℕ → ℕ → Option ℕ → ℕ
-stepsBy t places sb none = 0
-stepsBy t places sb (some f) = getD (rowOf t sb) (placeIn places f) 0
-
-abbrev pub stepsHeld : Layout → List ℕ → ℕ → ℕ → ℕ
-stepsHeld l places ch sb = stepsBy (l .table) places sb (servedBy l ch sb)
-
--- the steps of all slots
-unfoldable pub stepsOf : Layout → List ℕ → List ℕ
-stepsOf l places = tabulate 64 (λ s. stepsHeld l places (channelIn s) (subbandIn s))
-
 -- ---- the whole answer
 
 -- question 4: the fixed bits and the caller's fit the frame, as whole numbers
@@ -51,10 +37,9 @@ bitsAsked q = record { yes = leb (fixedOf q + q .banc) (cbOf q); otherwise = 4 }
 abbrev pub allocationAsked : Request → List (Question ℕ)
 allocationAsked q = headerAsked (q .header) ++ (bitsAsked q ∷ [])
 
--- where the rounds end over a layout's fields, with these ratios, first steps' costs and bits offered
-unfoldable pub runOf : Layout → List (List Float) → List ℕ → ℕ → Run
-unfolding rulesOf entriesOf
-runOf l smr costs offered = ended (rulesOf (entriesOf l smr costs)) (started offered)
+-- the worst case of scfsi and scalefactors as the first steps' costs
+unfoldable pub worstCase : Layout → List ℕ
+worstCase l = map firstStep (fieldsOf l)
 
 -- the record of an accepted allocation: the steps, and else what a fresh record has
 abbrev pub withSteps : AudioData → List ℕ → AudioData

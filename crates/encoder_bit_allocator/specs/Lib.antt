@@ -1,3 +1,2 @@
-pub mod Entries
 pub mod Allocation
-pub mod Laid
+pub mod OnTheWay

@@ -3,7 +3,7 @@ use mathlib.Core.Path.{_≡_, refl, sym, ap, ap₂, _∙_, subst}
 use mathlib.Core.Bool.{Bool, true, false, cond}
 use Prim.Native.Nat.{ℕ, zero, suc, _+_, _-_, _^_, _<_, zero-le}
 use native.Mathlib.Omega.{arith}
-use lib.Dec.{eqb, ltb, leb}
+use lib.Dec.{ltb, leb}
 use lib.IntN.{ℤ, pos, negsuc, _-ℤ_}
 use lib.Ieee.{minus}
 use mir.Syntax.{w64}
@@ -16,9 +16,7 @@ use Rattle.encoder_bit_budget.specs.declared.BitAllocError.{BitAllocErro
 use Rattle.encoder_bit_budget.specs.declared.BitAllocError.the-variants.{NoBitallocTable, ZeroSampleRate, FrameTooLarge}
 use Rattle.encoder_bit_budget.specs.declared.Budget.{Budget}
 use Rattle.encoder_bit_budget.specs.declared.Budget.the-variants.{Ok, Refused}
-use Rattle.encoder_bit_budget.specs.Budget.{BudgetAnswer, errorNumber, budgetIn, budgetOf, cbOf, fixedIn, Available, availableOf, natural}
-use Rattle.encoder_bit_budget.specs.OnTheWay.{availableBy}
-use Rattle.encoder_bit_budget.proofs.BudgetLaws.{cb-is}
+use Rattle.encoder_bit_budget.specs.Budget.{errorNumber, budgetIn, budgetOf, offeredIn, Available, availableBy, availableOf, natural}
 
 -- ---- a difference below 0 too
 
@@ -61,25 +59,18 @@ natural-minus a b = go (leb b a) refl
 
 -- ---- the answers
 
-abbrev offered : Request → BudgetAnswer → Available
-offered q a = record { answer = a .answer; bits = cond (eqb (a .answer) 0) (minus (cbOf q) (fixedIn (a .budget) + q .banc)) (pos 0) }
-
 pub refused-in : (banc : ℕ) (e : BitAllocError) → record { answer = errorNumber e; bits = pos 0 } ≡ availableBy banc (budgetIn (Refused e))
 unfolding availableBy
 refused-in banc NoBitallocTable = refl
 refused-in banc ZeroSampleRate = refl
 refused-in banc FrameTooLarge = refl
 
-pub accepted-in : (banc : ℕ) (b : FixedBitBudget) (z : ℤ) → z ≡ minus (b .cb) (fixedIn b + banc)
+pub accepted-in : (banc : ℕ) (b : FixedBitBudget) (z : ℤ) → z ≡ offeredIn b banc
   → record { answer = 0; bits = z } ≡ availableBy banc (budgetIn (Ok b))
 unfolding availableBy
 accepted-in banc b z e = ap (λ (z : ℤ). record { answer = 0; bits = z }) e
 
--- the offer by the budget's answer is the definition's
+-- the offer of the budget that was asked for is the definition's
 pub available-is : (q : Request) (r : Budget) (v : Available) → budgetIn r ≡ budgetOf q → v ≡ availableBy (q .banc) (budgetIn r) → v ≡ availableOf q
-unfolding availableOf availableBy
-available-is q (Ok b) v p e =
-    e ∙ ap (λ (c : ℕ). record { answer = 0; bits = minus c (fixedIn b + q .banc) }) (cb-is q b p) ∙ ap (offered q) p
-available-is q (Refused NoBitallocTable) v p e = e ∙ ap (offered q) p
-available-is q (Refused ZeroSampleRate) v p e = e ∙ ap (offered q) p
-available-is q (Refused FrameTooLarge) v p e = e ∙ ap (offered q) p
+unfolding availableOf
+available-is q r v p e = e ∙ ap (availableBy (q .banc)) p

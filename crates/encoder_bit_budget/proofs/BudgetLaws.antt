@@ -32,7 +32,7 @@ use Rattle.encoder_bit_budget.specs.declared.BitAllocError.{BitAllocErro
 use Rattle.encoder_bit_budget.specs.declared.BitAllocError.the-variants.{NoBitallocTable, ZeroSampleRate, FrameTooLarge}
 use Rattle.encoder_bit_budget.specs.declared.Budget.{Budget}
 use Rattle.encoder_bit_budget.specs.declared.Budget.the-variants.{Ok, Refused}
-use Rattle.encoder_bit_budget.specs.Budget.{plain, tableAsked, sizeAsked, headerAsked, errorNumber, cbOf, crcBits, allocationBits, budgetWith, budgetUnder, layoutIn, budgetIn, budgetOf, acceptedUnder, Bounded, BudgetIs}
+use Rattle.encoder_bit_budget.specs.Budget.{plain, tableAsked, sizeAsked, headerAsked, errorNumber, crcBits, allocationBits, budgetWith, budgetUnder, layoutIn, budgetIn, budgetOf, acceptedUnder, Bounded, BudgetIs}
 
 -- ---- what the frame's size tells
 
@@ -218,8 +218,3 @@ module _ (q : Request) where
     pub layout-is : layoutIn b ≡ layoutOf (q .header) (b .table)
     unfolding budgetUnder budgetWith layoutOf
     layout-is = ap layoutIn accepted-is
-
-    -- its bits are the frame's
-    pub cb-is : b .cb ≡ cbOf q
-    unfolding budgetUnder budgetWith
-    cb-is = ap (λ b. b .cb) accepted-is

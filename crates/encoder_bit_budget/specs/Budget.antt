@@ -118,14 +118,14 @@ budgetOf q =
 
 -- ---- what is offered
 
--- fixed: the bits that are spent before any sample is coded, by the budget
-abbrev pub fixedOf : Request → ℕ
-fixedOf q = fixedIn (budgetOf q .budget)
-
 -- offered, the clause's adb before any field has steps: the frame's bits less the fixed ones and the caller's ancillary bits, as a signed
--- number; of a refused header it says nothing
+-- number
+abbrev pub offeredIn : FixedBitBudget → ℕ → ℤ
+offeredIn b banc = minus (b .cb) (fixedIn b + banc)
+
+-- what is offered to a request whose header is accepted
 abbrev pub offeredOf : Request → ℤ
-offeredOf q = minus (cbOf q) (fixedOf q + q .banc)
+offeredOf q = offeredIn (budgetOf q .budget) (q .banc)
 
 -- the answer of `available_data_bits`: its number, and the bits, which are 0 where the header is refused
 pub record Available : Type 0 where
@@ -137,11 +137,13 @@ abbrev pub availableIn : AvailableBits → Available
 availableIn (A.Bits z) = record { answer = 0; bits = z }
 availableIn (A.Refused e) = record { answer = errorNumber e; bits = pos 0 }
 
+-- from the budget's answer
+unfoldable pub availableBy : ℕ → BudgetAnswer → Available
+availableBy banc a = record { answer = a .answer; bits = cond (eqb (a .answer) 0) (offeredIn (a .budget) banc) (pos 0) }
+
 unfoldable pub availableOf : Request → Available
-unfolding budgetOf
-availableOf q =
-    let n = budgetOf q .answer in
-    record { answer = n; bits = cond (eqb n 0) (offeredOf q) (pos 0) }
+unfolding availableBy budgetOf
+availableOf q = availableBy (q .banc) (budgetOf q)
 
 -- the bits offered as a whole number; 0 where they fall below 0, which question 4 refuses
 abbrev pub natural : ℤ → ℕ

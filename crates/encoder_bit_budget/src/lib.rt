@@ -3,8 +3,7 @@
 ghost use mathlib.Core.Path.{_≡_};
 ghost use mathlib.Core.Option.{some};
 ghost use Rattle.bitalloc.specs.Select.{tableOf};
-ghost use Rattle.encoder_bit_budget.specs.Budget.{errorNumber, plain, crcBits, allocationBits, fixedIn, layoutIn, budgetWith, budgetIn, availableIn, availableOf, BudgetIs};
-ghost use Rattle.encoder_bit_budget.specs.OnTheWay.{availableBy};
+ghost use Rattle.encoder_bit_budget.specs.Budget.{errorNumber, plain, crcBits, allocationBits, fixedIn, layoutIn, budgetWith, budgetIn, availableIn, availableBy, availableOf, BudgetIs};
 use bitalloc::{BitAllocTable, OptionTable};
 use header::{FrameHeader, FrameSize};
 use layout::Layout;

@@ -32,8 +32,8 @@ use Rattle.encoder_bit_demand.specs.declared.DemandBits.{DemandBits}
 use Rattle.encoder_bit_demand.specs.declared.DemandBits.the-variants as Demand
 use Rattle.encoder_bit_budget.specs.Budget.{BudgetAnswer, plain, errorNumber, budgetIn, budgetOf, layoutIn}
 use Rattle.encoder_bit_demand.specs.Snr.{snr}
-use Rattle.encoder_bit_demand.specs.Demand.{neededSteps, neededBits, orTop, smrAt, smrsOf, largestSmr, layoutDemand, Demanded, demandOf, FirstStepIs, DemandIs}
-use Rattle.encoder_bit_demand.specs.OnTheWay.{demandBy, NeededIs, FieldDemandIs, LayoutDemandIs, DemandInIs}
+use Rattle.encoder_bit_demand.specs.Demand.{neededSteps, neededBits, orTop, smrAt, smrsOf, largestSmr, layoutDemand, Demanded, demandOf, FirstStepIs, DemandIs, demandBy}
+use Rattle.encoder_bit_demand.specs.OnTheWay.{NeededIs, FieldDemandIs, LayoutDemandIs, DemandInIs}
 
 -- ---- the steps that a ratio needs, by a search along the first places of a row
 

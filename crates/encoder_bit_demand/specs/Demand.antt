@@ -21,7 +21,7 @@ use Rattle.layout.specs.Layout.{served, fieldsOf, sumOver}
 use Rattle.encoder_bit_demand.specs.declared.DemandBits.{DemandBits}
 use Rattle.encoder_bit_demand.specs.declared.DemandBits.the-variants.{Bits, Refused}
 use Rattle.encoder_bit_demand.specs.Snr.{snr}
-use Rattle.encoder_bit_budget.specs.Budget.{plain, errorNumber, budgetOf, layoutIn}
+use Rattle.encoder_bit_budget.specs.Budget.{BudgetAnswer, plain, errorNumber, budgetOf, layoutIn}
 
 -- The signal-to-mask ratios are two rows of 32, in dB; a slot's is at its channel and subband.
 abbrev pub smrAt : List (List Float) → ℕ → ℕ → Float
@@ -72,11 +72,13 @@ abbrev pub demandIn : DemandBits → Demanded
 demandIn (Bits n) = record { answer = 0; bits = n }
 demandIn (Refused e) = record { answer = errorNumber e; bits = 0 }
 
+-- from the budget's answer
+abbrev pub demandBy : List (List Float) → BudgetAnswer → Demanded
+demandBy smr a = record { answer = a .answer; bits = cond (eqb (a .answer) 0) (layoutDemand (layoutIn (a .budget)) smr) 0 }
+
 unfoldable pub demandOf : FrameHeader → List (List Float) → Demanded
 unfolding layoutDemand budgetOf
-demandOf h smr =
-    let a = budgetOf (plain h 0) in
-    record { answer = a .answer; bits = cond (eqb (a .answer) 0) (layoutDemand (layoutIn (a .budget)) smr) 0 }
+demandOf h smr = demandBy smr (budgetOf (plain h 0))
 
 -- ---- what the functions promise
 

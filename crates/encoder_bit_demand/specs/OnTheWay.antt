@@ -2,20 +2,14 @@
 -- For the contracts of private functions alone: nothing that a caller has to believe stands here.
 use Prim.Native.Nat.{ℕ, _+_, _*_, _≤_}
 use mathlib.Core.Path.{_≡_}
-use mathlib.Core.Bool.{cond}
 use mathlib.Core.List.{List}
-use lib.Dec.{eqb}
 use lib.Ieee.{Float}
 use Rattle.bitalloc.specs.declared.BitAllocTable.{BitAllocTable}
 use Rattle.layout.specs.declared.Layout.{Layout}
 use Rattle.layout.specs.declared.AllocationField.{AllocationField}
-use Rattle.encoder_bit_budget.specs.Budget.{BudgetAnswer, layoutIn}
+use Rattle.encoder_bit_budget.specs.Budget.{BudgetAnswer}
 use Rattle.encoder_bit_demand.specs.declared.DemandBits.{DemandBits}
-use Rattle.encoder_bit_demand.specs.Demand.{neededBits, fieldDemand, layoutDemand, Demanded, demandIn}
-
--- the demand by the budget's answer
-abbrev pub demandBy : List (List Float) → BudgetAnswer → Demanded
-demandBy smr a = record { answer = a .answer; bits = cond (eqb (a .answer) 0) (layoutDemand (layoutIn (a .budget)) smr) 0 }
+use Rattle.encoder_bit_demand.specs.Demand.{neededBits, fieldDemand, layoutDemand, demandIn, demandBy}
 
 pub record DemandInIs (a : BudgetAnswer) (smr : List (List Float)) (r : DemandBits) : Type 0 where
   pub whole : demandIn r ≡ demandBy smr a

@@ -2,8 +2,7 @@
 use mathlib.Core.Path.{sym, ap, _∙_}
 use Prim.Native.Nat.{ℕ, _+_}
 use lib.Ieee.{minus}
-use Rattle.encoder_bit_budget.specs.Budget.{budgetIn}
-use Rattle.encoder_bit_budget.specs.OnTheWay.{availableBy}
+use Rattle.encoder_bit_budget.specs.Budget.{budgetIn, availableBy}
 use Rattle.encoder_bit_budget.proofs.AvailableLaws.{signed, signed-fits, refused-in, accepted-in}
 use borrow.Author.Needs.{needs}
 use Rattle.encoder_bit_budget.proofs.available_in.Statement.{statement}

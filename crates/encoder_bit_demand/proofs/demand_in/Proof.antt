@@ -1,7 +1,7 @@
 -- `encoder_bit_demand::demand_in` meets its contract.
 use mathlib.Core.Path.{sym, ap, _∙_}
 use Rattle.encoder_bit_budget.specs.Budget.{budgetIn}
-use Rattle.encoder_bit_demand.specs.OnTheWay.{demandBy}
+use Rattle.encoder_bit_demand.specs.Demand.{demandBy}
 use Rattle.encoder_bit_demand.proofs.DemandLaws.{refused-in, accepted-in}
 use borrow.Author.Needs.{needs}
 use Rattle.encoder_bit_demand.proofs.demand_in.Statement.{statement}

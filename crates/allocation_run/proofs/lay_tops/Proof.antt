@@ -1,4 +1,4 @@
--- `encoder_bit_allocator::lay_tops` meets its contract. The loop's invariant: the top places so far.
+-- `allocation_run::lay_tops` meets its contract. The loop's invariant: the top places so far.
 use Prim.Native.Nat.{ℕ, _-_, _≤_, _<_}
 use mathlib.Core.Path.{_≡_, ap, _∙_}
 use native.Mathlib.Nat.{not-suc-le-zero}
@@ -9,10 +9,10 @@ use Rattle.bitalloc.specs.Tables.{rowOf}
 use Rattle.layout.specs.declared.AllocationField.{AllocationField}
 use Rattle.layout.specs.Layout.{fieldsOf, fieldIn}
 use Rattle.layout.proofs.FieldLaws.{few}
-use Rattle.encoder_bit_allocator.specs.Laid.{TopsTo}
+use Rattle.allocation_run.specs.Laid.{TopsTo}
 use borrow.Author.Needs.{needs}
-use Rattle.encoder_bit_allocator.proofs.lay_tops.Statement.{statement}
-use Rattle.encoder_bit_allocator.proofs.lay_tops.Tie as tie
+use Rattle.allocation_run.proofs.lay_tops.Statement.{statement}
+use Rattle.allocation_run.proofs.lay_tops.Tie as tie
 
 abbrev Inv-loop : tie.InvT-loop
 Inv-loop layout fields tops₀ table f₀ tops f = (f ≤ fields) × ((length tops ≡ 64) × TopsTo layout f tops)

@@ -1,14 +1,14 @@
--- `encoder_bit_allocator::lay_out` meets its contract. The loop's invariant: the fields so far.
+-- `allocation_run::lay_out` meets its contract. The loop's invariant: the fields so far.
 use Prim.Native.Nat.{ℕ, _-_, _*_, _≤_, _<_}
 use mathlib.Core.Path.{_≡_, subst}
 use native.Mathlib.Omega.{arith}
 use borrow.Author.Needs.{needs}
 use Rattle.layout.proofs.FieldLaws.{few}
-use Rattle.encoder_bit_allocator.specs.Entries.{entriesOf}
-use Rattle.encoder_bit_allocator.specs.Laid.{LaidOut}
-use Rattle.encoder_bit_allocator.proofs.LaidLaws.{none-laid}
-use Rattle.encoder_bit_allocator.proofs.lay_out.Statement.{statement}
-use Rattle.encoder_bit_allocator.proofs.lay_out.Tie as tie
+use Rattle.allocation_run.specs.Entries.{entriesOf}
+use Rattle.allocation_run.specs.Laid.{LaidOut}
+use Rattle.allocation_run.proofs.LaidLaws.{none-laid}
+use Rattle.allocation_run.proofs.lay_out.Statement.{statement}
+use Rattle.allocation_run.proofs.lay_out.Tie as tie
 
 abbrev Inv-loop : tie.InvT-loop
 Inv-loop layout smr-db costs fields mnrs₀ charges₀ f₀ mnrs charges f =

@@ -1,9 +1,9 @@
--- `encoder_bit_allocator::slot_mnr` meets its contract: what `snr_db` finds is the definition's SNR.
+-- `allocation_run::slot_mnr` meets its contract: what `snr_db` finds is the definition's SNR.
 use borrow.Author.Tests.{eq-eqb}
-use Rattle.encoder_bit_allocator.proofs.LaidLaws.{slot-found, slot-unknown}
+use Rattle.allocation_run.proofs.LaidLaws.{slot-found, slot-unknown}
 use borrow.Author.Needs.{needs}
-use Rattle.encoder_bit_allocator.proofs.slot_mnr.Statement.{statement}
-use Rattle.encoder_bit_allocator.proofs.slot_mnr.Tie as tie
+use Rattle.allocation_run.proofs.slot_mnr.Statement.{statement}
+use Rattle.allocation_run.proofs.slot_mnr.Tie as tie
 
 returns : tie.Need-returns
 returns c = rw (eq-eqb _ _ (c .if1 .taken))

@@ -1,24 +1,24 @@
--- From the places that the fields reach to the steps of the slots, and back: what the steps say of the places.
+-- From the places that the fields reach to the steps of the slots.
 use mathlib.Core.Path.{_≡_, sym, ap, ap₂, _∙_}
 use mathlib.Core.List.{List}
 use mathlib.Core.Option.{none, some}
-use Prim.Native.Nat.{ℕ, _+_, _*_, _/_, _%_, _<_}
+use Prim.Native.Nat.{ℕ, _+_, _*_, _/_, _%_, _≤_, _<_}
+use native.Mathlib.Nat.{le-trans}
 use native.Mathlib.Omega.{arith}
-use lib.Dec.{T, eqb}
-use lib.ListN.{length, getD}
-use Rattle.tables.specs.Search.{place, oneOf}
-use Rattle.tables.proofs.Listed.{tabulated, map-at}
-use Rattle.tables.proofs.Search.{there}
-use Rattle.bitalloc.specs.Tables.{rowOf, stepsAt, indexOf}
+use lib.Dec.{T}
+use lib.ListN.{length, getD, List·getD-eq-default}
+use Rattle.tables.specs.Search.{oneOf}
+use Rattle.tables.proofs.Listed.{tabulated}
+use Rattle.bitalloc.specs.Tables.{rowOf}
 use Rattle.bitalloc.specs.Storage.{rowOf16}
-use Rattle.bitalloc.proofs.RowLaws.{sblimit-small, index-of-steps, row-number}
+use Rattle.bitalloc.proofs.RowLaws.{sblimit-small, places-small, row-number}
 use Rattle.layout.specs.declared.Layout.{Layout}
 use Rattle.layout.specs.declared.AllocationField.{AllocationField}
 use Rattle.layout.specs.Slots.{slotOf}
-use Rattle.layout.specs.Layout.{own, served, fieldsOf, fieldIn, servedBy}
-use Rattle.layout.proofs.FieldLaws.{carried, serves-first, channel-small, served-once}
+use Rattle.layout.specs.Layout.{served, fieldsOf, fieldIn, servedBy}
+use Rattle.layout.proofs.FieldLaws.{carried, channel-small, served-once}
 use Rattle.allocation_rounds.specs.Rounds.{placeIn}
-use Rattle.encoder_bit_allocator.specs.Allocation.{stepsBy, stepsHeld, stepsOf, fieldSteps, standing, orBottom, placesFrom}
+use Rattle.allocation_run.specs.Steps.{stepsBy, stepsHeld, stepsOf}
 
 module _ (l : Layout) (places : List ℕ) where
   -- what the table of steps has at a slot
@@ -41,27 +41,17 @@ module _ (l : Layout) (places : List ℕ) where
         at-slot ch (x .subband) (channel-small l f h ch c) (let z = sblimit-small (l .table) in omega arith)
         ∙ ap (stepsBy (l .table) places (x .subband)) (served-once l f h ch c)
 
-    -- the steps that a field holds, and from them its place
-    pub field-steps : fieldSteps (stepsOf l places) x ≡ getD (rowOf (l .table) (x .subband)) (placeIn places f) 0
-    field-steps = slot-steps (x .channel) (serves-first l f h)
-
-    pub stands-at : placeIn places f < length (rowOf (l .table) (x .subband)) → standing (l .table) (stepsOf l places) x ≡ placeIn places f
-    unfolding indexOf stepsAt
-    stands-at b =
-        let row = rowOf (l .table) (x .subband) in
-        ap (λ (m : ℕ). orBottom (place (λ k. eqb k m) row)) field-steps
-        ∙ ap orBottom (index-of-steps (l .table) (x .subband) (placeIn places f) (getD row (placeIn places f) 0) (there row (placeIn places f) 0 b))
-
-    pub places-back : placeIn places f < length (rowOf (l .table) (x .subband)) → placeIn (placesFrom l (stepsOf l places)) f ≡ placeIn places f
-    unfolding placesFrom
-    places-back b = map-at (standing (l .table) (stepsOf l places)) (fieldsOf l) f (own 0 0) 0 h ∙ stands-at b
-
 -- ---- what the code finds for a slot
 
 pub steps-found : (l : Layout) (places : List ℕ) (ch sb f : ℕ) (row : List ℕ) → servedBy l ch sb ≡ some f → placeIn places f < 16 → row ≡ rowOf16 (l .table) sb
   → getD row (placeIn places f) 0 ≡ stepsHeld l places ch sb
 steps-found l places ch sb f row e s r =
     row-number (l .table) sb (placeIn places f) row r s ∙ sym (ap (stepsBy (l .table) places sb) e)
+
+-- no row has a place above 15
+pub steps-past : (l : Layout) (places : List ℕ) (ch sb f : ℕ) → servedBy l ch sb ≡ some f → 16 ≤ placeIn places f → 0 ≡ stepsHeld l places ch sb
+steps-past l places ch sb f e h =
+    sym (List·getD-eq-default (rowOf (l .table) sb) 0 {n = placeIn places f} (le-trans (places-small (l .table) sb) h)) ∙ sym (ap (stepsBy (l .table) places sb) e)
 
 pub steps-none : (l : Layout) (places : List ℕ) (ch sb : ℕ) → servedBy l ch sb ≡ none → 0 ≡ stepsHeld l places ch sb
 steps-none l places ch sb e = sym (ap (stepsBy (l .table) places sb) e)

@@ -15,7 +15,7 @@ use Rattle.layout.specs.declared.Layout.{Layout}
 use Rattle.layout.specs.declared.AllocationField.{AllocationField}
 use Rattle.layout.specs.Layout.{fieldsOf, fieldIn}
 use Rattle.encoder_bit_demand.specs.Snr.{snr}
-use Rattle.encoder_bit_demand.specs.Demand.{smrsOf, firstStep}
+use Rattle.encoder_bit_demand.specs.Demand.{smrsOf}
 use Rattle.allocation_rounds.specs.Rounds.{Rules}
 
 -- of a field: the steps at the places of its row, the signal-to-mask ratios of the channels that it serves, and the bits that its first step
@@ -70,10 +70,6 @@ entryOf t smr x first = record { row = rowOf t (x .subband); smr = smrsOf smr x;
 unfoldable pub entriesOf : Layout → List (List Float) → List ℕ → List Entry
 entriesOf l smr costs =
     tabulate (length (fieldsOf l)) (λ f. entryOf (l .table) smr (fieldIn (fieldsOf l) f) (getD costs f 0))
-
--- the worst case of scfsi and scalefactors as the first steps' costs
-unfoldable pub worstCase : Layout → List ℕ
-worstCase l = map firstStep (fieldsOf l)
 
 -- ---- what a function promises
 

@@ -1,16 +1,16 @@
--- `encoder_bit_allocator::lay_field` meets its contract. The loop's invariant: whatever layout the field is of, the places so far are laid.
+-- `allocation_run::lay_field` meets its contract. The loop's invariant: whatever layout the field is of, the places so far are laid.
 use Prim.Native.Nat.{ℕ, _+_, _-_, _*_, _≤_, _<_}
 use mathlib.Core.Path.{_≡_, refl, subst}
 use native.Mathlib.Omega.{arith}
 use lib.ListN.{length, length-set}
 use Rattle.bitalloc.proofs.RowLaws.{sblimit-small}
 use Rattle.layout.specs.declared.Layout.{Layout}
-use Rattle.encoder_bit_allocator.specs.Entries.{entriesOf}
-use Rattle.encoder_bit_allocator.specs.Laid.{LaidOut, Modest}
-use Rattle.encoder_bit_allocator.proofs.LaidLaws.{Begun, begin, go-on, end}
+use Rattle.allocation_run.specs.Entries.{entriesOf}
+use Rattle.allocation_run.specs.Laid.{LaidOut, Modest}
+use Rattle.allocation_run.proofs.LaidLaws.{Begun, begin, go-on, end}
 use borrow.Author.Needs.{needs}
-use Rattle.encoder_bit_allocator.proofs.lay_field.Statement.{statement}
-use Rattle.encoder_bit_allocator.proofs.lay_field.Tie as tie
+use Rattle.allocation_run.proofs.lay_field.Statement.{statement}
+use Rattle.allocation_run.proofs.lay_field.Tie as tie
 
 abbrev Inv-loop : tie.InvT-loop
 Inv-loop smr-db costs number mnrs₀ charges₀ field first-step row places start p₀ mnrs charges p =
@@ -66,6 +66,12 @@ mul-mnrs c = search needs
 
 element-write-mnrs : tie.Need-element-write-mnrs Inv-loop μ-loop
 element-write-mnrs c = search needs
+
+cast-charge : tie.Need-cast-charge Inv-loop μ-loop
+unfolding Modest
+cast-charge c =
+    let start = c .before .before .before .before .before .before .before in
+    omega (arith, start .pre .2 (start .args .number))
 
 charge-requires : tie.Need-charge-requires Inv-loop μ-loop
 charge-requires c κs = search needs
@@ -135,6 +141,7 @@ lay-field-spec =
     field-mnr-requires
     mul-mnrs
     element-write-mnrs
+    cast-charge
     charge-requires
     cast-charges
     mul-charges

@@ -1,8 +1,8 @@
--- `encoder_bit_allocator::charge` meets its contract.
-use Rattle.encoder_bit_allocator.proofs.LaidLaws.{no-charge, some-charge}
+-- `allocation_run::charge` meets its contract.
+use Rattle.allocation_run.proofs.LaidLaws.{no-charge, some-charge}
 use borrow.Author.Needs.{needs}
-use Rattle.encoder_bit_allocator.proofs.charge.Statement.{statement}
-use Rattle.encoder_bit_allocator.proofs.charge.Tie as tie
+use Rattle.allocation_run.proofs.charge.Statement.{statement}
+use Rattle.allocation_run.proofs.charge.Tie as tie
 
 returns : tie.Need-returns
 returns c = no-charge _ _ (c .if1 .taken)

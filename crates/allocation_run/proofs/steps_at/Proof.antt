@@ -1,17 +1,12 @@
--- `encoder_bit_allocator::steps_at` meets its contract.
+-- `allocation_run::steps_at` meets its contract.
 use mathlib.Core.Path.{sym, ap, _∙_}
-use Prim.Native.Nat.{_<_}
 use native.Mathlib.Omega.{arith}
-use Rattle.allocation_rounds.specs.Rounds.{placeIn}
 use Rattle.bitalloc.specs.Options.{numberIn}
-use Rattle.encoder_bit_allocator.proofs.HeldLaws.{steps-found, steps-none}
+use Rattle.allocation_run.specs.Laid.{Bytes}
+use Rattle.allocation_run.proofs.HeldLaws.{steps-found, steps-past, steps-none}
 use borrow.Author.Needs.{needs}
-use Rattle.encoder_bit_allocator.proofs.steps_at.Statement.{statement}
-use Rattle.encoder_bit_allocator.proofs.steps_at.Tie as tie
-
--- the place of the field that was found is one of sixteen
-small : (c : tie.After-known-told) → placeIn (c .before .before .before .before .args .places .now) (c .before .serving .given .0 .0) < 16
-small c = c .before .before .before .before .pre .1 (c .before .serving .given .0 .0)
+use Rattle.allocation_run.proofs.steps_at.Statement.{statement}
+use Rattle.allocation_run.proofs.steps_at.Tie as tie
 
 field-serving-requires : tie.Need-field-serving-requires
 field-serving-requires c κs = search needs
@@ -36,24 +31,32 @@ element-copy-out-place c =
     omega (arith, c .before .before .before .field-serving .ensures .below (found .0 .0) (found .1))
 
 cast-place-2 : tie.Need-cast-place-2
-cast-place-2 c = omega (arith, small (c .before))
+unfolding Bytes
+cast-place-2 c =
+    let found = c .before .before in
+    omega (arith, found .before .before .before .pre .1 (found .serving .given .0 .0))
 
 row-requires : tie.Need-row-requires
 row-requires c κs = search needs
 
 mul-result : tie.Need-mul-result
-mul-result c = omega (arith, small (c .before .before))
+mul-result c = search needs
 
 array-read-result : tie.Need-array-read-result
-array-read-result c = omega (arith, small (c .before .before))
+array-read-result c = search needs
 
 returns-2 : tie.Need-returns-2
 returns-2 c =
-    let known = c .before .before .before in
+    let known = c .before .before .before .before in
     let asked = known .before .before in
-    let start = asked .before in
     steps-found _ _ _ _ (known .serving .given .0 .0) _ (sym (asked .field-serving .ensures .whole) ∙ ap numberIn (known .serving .given .1))
-    (start .pre .1 (known .serving .given .0 .0)) (c .row .ensures)
+    (c .if1 .taken) (c .before .row .ensures)
+
+returns-3 : tie.Need-returns-3
+returns-3 c =
+    let known = c .before .before .before .before in
+    let asked = known .before .before in
+    steps-past _ _ _ _ (known .serving .given .0 .0) (sym (asked .field-serving .ensures .whole) ∙ ap numberIn (known .serving .given .1)) (c .if1 .left)
 
 pub steps-at-spec : {M : Type 1} → statement M
 steps-at-spec =
@@ -69,4 +72,5 @@ steps-at-spec =
     row-requires
     mul-result
     array-read-result
-    returns-2)
+    returns-2
+    returns-3)

@@ -1,8 +1,8 @@
--- `encoder_bit_allocator::field_mnr` meets its contract.
-use Rattle.encoder_bit_allocator.proofs.LaidLaws.{mnr-both, mnr-one}
+-- `allocation_run::field_mnr` meets its contract.
+use Rattle.allocation_run.proofs.LaidLaws.{mnr-both, mnr-one}
 use borrow.Author.Needs.{needs}
-use Rattle.encoder_bit_allocator.proofs.field_mnr.Statement.{statement}
-use Rattle.encoder_bit_allocator.proofs.field_mnr.Tie as tie
+use Rattle.allocation_run.proofs.field_mnr.Statement.{statement}
+use Rattle.allocation_run.proofs.field_mnr.Tie as tie
 
 mul-slot-mnr : tie.Need-mul-slot-mnr
 mul-slot-mnr c = search needs

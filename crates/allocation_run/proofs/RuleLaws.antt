@@ -24,7 +24,7 @@ use Rattle.bitalloc.proofs.RowLaws.{row-rule, places-small}
 use Rattle.encoder_bit_demand.specs.Snr.{snr}
 use Rattle.encoder_bit_demand.proofs.RowSnr.{row-snr-rule, row-snr-le, row-bits-rise}
 use Rattle.allocation_rounds.specs.Promises.{Counting, Rising}
-use Rattle.encoder_bit_allocator.specs.Entries.{Entry, slotMnr, least, mnrAt, chargeAt, entryIn, rulesOf}
+use Rattle.allocation_run.specs.Entries.{Entry, slotMnr, least, mnrAt, chargeAt, entryIn, rulesOf}
 
 -- ---- what is asked of a row: it starts with no steps, and steps, their bits and their signal-to-noise ratios rise along it
 

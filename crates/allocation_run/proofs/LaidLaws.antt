@@ -25,8 +25,8 @@ use Rattle.encoder_bit_demand.specs.declared.OptionF64.{OptionF64}
 use Rattle.encoder_bit_demand.specs.declared.OptionF64.the-variants.{Some, None}
 use Rattle.encoder_bit_demand.specs.Snr.{snrOf, orNan, snrIn}
 use Rattle.encoder_bit_demand.specs.Demand.{smrAt, smrsOf}
-use Rattle.encoder_bit_allocator.specs.Entries.{Entry, slotMnr, mnrOf, mnrAt, charge, chargeAt, entryIn, entryOf, entriesOf, ChargeIs}
-use Rattle.encoder_bit_allocator.specs.Laid.{LaidOut}
+use Rattle.allocation_run.specs.Entries.{Entry, slotMnr, mnrOf, mnrAt, charge, chargeAt, entryIn, entryOf, entriesOf, ChargeIs}
+use Rattle.allocation_run.specs.Laid.{LaidOut}
 
 -- ---- a slot, and a field
 

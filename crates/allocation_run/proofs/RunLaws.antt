@@ -3,7 +3,6 @@ use mathlib.Core.Path.{_≡_, sym, ap, _∙_, subst}
 use mathlib.Core.List.{List}
 use Prim.Native.Nat.{ℕ, _+_, _-_, _*_, min, _≤_, _<_}
 use native.Mathlib.Omega.{arith}
-use lib.Dec.{lit<}
 use lib.Ieee.{Float, nan}
 use lib.ListN.{length, getD}
 use Rattle.tables.proofs.Listed.{tabulate-same}
@@ -11,20 +10,16 @@ use Rattle.bitalloc.specs.Tables.{rowOf}
 use Rattle.layout.specs.declared.Layout.{Layout}
 use Rattle.layout.specs.Layout.{fieldsOf, fieldIn, FieldsAre}
 use Rattle.layout.proofs.FieldLaws.{few, carried}
-use Rattle.audio_data.specs.declared.AudioData.{AudioData}
-use Rattle.audio_data.specs.Record.{fresh}
 use Rattle.allocation_rounds.specs.declared.Run.{Run}
-use Rattle.allocation_rounds.specs.Rounds.{placeIn, started, ended}
+use Rattle.allocation_rounds.specs.Rounds.{started, ended}
 use Rattle.allocation_rounds.specs.Lent.{lent}
 use Rattle.allocation_rounds.specs.Answers.{Onward}
 use Rattle.allocation_rounds.proofs.Agree.{Agree, same-end}
-use Rattle.allocation_rounds.proofs.OnTheWay.{zeros}
-use Rattle.encoder_bit_allocator.specs.declared.Allocation.{Allocation}
-use Rattle.encoder_bit_allocator.specs.Entries.{Entry, mnrAt, chargeAt, entryIn, entryOf, entriesOf, rulesOf, worstCase}
-use Rattle.encoder_bit_allocator.specs.Allocation.{stepsOf, withSteps, runOf, accepted}
-use Rattle.encoder_bit_allocator.specs.Laid.{LaidOut, TopsTo, CostsAre, RunIs}
-use Rattle.encoder_bit_allocator.proofs.LaidLaws.{entries-count, entry-at, room}
-use Rattle.encoder_bit_allocator.proofs.RuleLaws.{Sound, sound-row}
+use Rattle.allocation_run.specs.Entries.{Entry, mnrAt, chargeAt, entryIn, entryOf, entriesOf, rulesOf}
+use Rattle.allocation_run.specs.Steps.{runOf}
+use Rattle.allocation_run.specs.Laid.{LaidOut, TopsTo}
+use Rattle.allocation_run.proofs.LaidLaws.{entries-count, entry-at, room}
+use Rattle.allocation_run.proofs.RuleLaws.{Sound, sound-row}
 
 module _ (l : Layout) (smr : List (List Float)) (costs : List ℕ) where
   abbrev es : List Entry
@@ -67,22 +62,10 @@ module _ (l : Layout) (smr : List (List Float)) (costs : List ℕ) where
     }
 
     -- what `run_of` answers
-    pub run-is : (offered : ℕ) (s r : Run) → s ≡ started offered → Onward s (ended (lent fields tops mnrs charges) s) r → RunIs l smr costs offered r
+    pub run-is : (offered : ℕ) (s r : Run) → s ≡ started offered → Onward s (ended (lent fields tops mnrs charges) s) r → r ≡ runOf l smr costs offered
     unfolding runOf
-    run-is offered s r started-at o = record {
-      whole = o .whole ∙ ap (ended (lent fields tops mnrs charges)) started-at ∙ same-end (lent fields tops mnrs charges) (rulesOf es) agrees (started offered);
-      small = λ f. o .small f (subst (λ (n : ℕ). n < 16) (sym (ap (λ (s : Run). placeIn (s .places) f) started-at ∙ zeros 64 f)) (lit< tt))
-    }
-
--- what `accepted` answers
-pub accepted-is : (l : Layout) (smr : List (List Float)) (costs : List ℕ) (offered : ℕ) (r : Run) (d : AudioData) (steps : List ℕ) → RunIs l smr costs offered r
-  → d ≡ fresh l → steps ≡ stepsOf l (r .places)
-  → _≡_ {A = Allocation} (record { number = 0; audio = withSteps d steps; left = r .left; cb = 0; fixed = 0; banc = 0 }) (accepted l smr costs offered)
-unfolding accepted
-accepted-is l smr costs offered r d steps run e q =
-    let w = run .whole in
-    let s = q ∙ ap (λ (s : Run). stepsOf l (s .places)) w in
-    λ i. record { number = 0; audio = withSteps (e i) (s i); left = w i .left; cb = 0; fixed = 0; banc = 0 }
+    run-is offered s r started-at o =
+        o .whole ∙ ap (ended (lent fields tops mnrs charges)) started-at ∙ same-end (lent fields tops mnrs charges) (rulesOf es) agrees (started offered)
 
 -- costs that agree at every field make the same entries
 same-entries : (l : Layout) (smr : List (List Float)) (c d : List ℕ) → ((f : ℕ) → f < length (fieldsOf l) → getD c f 0 ≡ getD d f 0)
@@ -91,19 +74,8 @@ unfolding entriesOf
 same-entries l smr c d e =
     tabulate-same (length (fieldsOf l)) _ _ (λ f h. ap (entryOf (l .table) smr (fieldIn (fieldsOf l) f)) (e f h))
 
-pub same-costs : (l : Layout) (smr : List (List Float)) (costs : List ℕ) (offered : ℕ) → CostsAre l costs
-  → accepted l smr costs offered ≡ accepted l smr (worstCase l) offered
-unfolding accepted runOf
-same-costs l smr costs offered c =
-    let s : List Entry → Run = λ es. ended (rulesOf es) (started offered) in
-    ap (λ (es : List Entry). record {
-      number = 0;
-      audio = withSteps (fresh l) (stepsOf l (s es .places));
-      left = s es .left;
-      cb = 0;
-      fixed = 0;
-      banc = 0
-    }) same
-  where
-    same : entriesOf l smr costs ≡ entriesOf l smr (worstCase l)
-    same = same-entries l smr costs (worstCase l) (c .cost)
+-- so the rounds end at the same
+pub same-run : (l : Layout) (smr : List (List Float)) (c d : List ℕ) (offered : ℕ) → ((f : ℕ) → f < length (fieldsOf l) → getD c f 0 ≡ getD d f 0)
+  → runOf l smr c offered ≡ runOf l smr d offered
+unfolding runOf
+same-run l smr c d offered e = ap (λ (es : List Entry). ended (rulesOf es) (started offered)) (same-entries l smr c d e)

@@ -1,8 +1,11 @@
--- `encoder_bit_allocator::run_of` meets its contract: the tables agree with the rules, so the rounds end where the definition's do.
-use Rattle.encoder_bit_allocator.proofs.RunLaws.{run-is}
-use borrow.Author.Needs.{needs}
-use Rattle.encoder_bit_allocator.proofs.run_of.Statement.{statement}
-use Rattle.encoder_bit_allocator.proofs.run_of.Tie as tie
+-- `allocation_run::run_of` meets its contract: the tables agree with the rules, so the rounds end where the definition's do.
+use native.Mathlib.Omega.{arith}
+use mir.Syntax.{w16}
+use Rattle.allocation_run.specs.Laid.{Modest}
+use Rattle.allocation_run.proofs.RunLaws.{run-is}
+use borrow.Author.Needs.{needs, elem-fits}
+use Rattle.allocation_run.proofs.run_of.Statement.{statement}
+use Rattle.allocation_run.proofs.run_of.Tie as tie
 
 fields-requires : tie.Need-fields-requires
 fields-requires c κs = search needs
@@ -20,7 +23,16 @@ lay-tops-requires : tie.Need-lay-tops-requires
 lay-tops-requires c κs = search needs
 
 lay-out-requires : tie.Need-lay-out-requires
-lay-out-requires c κs = search needs
+unfolding Modest
+lay-out-requires c κs =
+    let fields = c .before .before .before .before .before .before .before .before in
+    let start = fields .before in
+    (
+      fields .fields .ensures .whole,
+      λ f. omega (arith, elem-fits w16 w16 (start .args .t3) _ f (start .good .1 .1 .0 .1 .1) tt),
+      search needs,
+      search needs
+    )
 
 start-requires : tie.Need-start-requires
 start-requires c κs = search needs
@@ -32,10 +44,10 @@ returns : tie.Need-returns
 returns c =
     let start = c .before .before .before .before in
     let laid = start .before in
-    let tops = laid .before .before .before in
+    let tops = laid .before .before .before .before in
     let fields = tops .before .before .before .before .before in
     let given = fields .before .args in
-    run-is (given .layout) (given .smr-db .now) (given .costs .now) _ (fields .fields .ensures .whole) _ _ _ (tops .lay-tops .ensures) (laid .lay-out .ensures)
+    run-is (given .layout) (given .smr-db .now) (given .t3) _ (fields .fields .ensures .whole) _ _ _ (tops .lay-tops .ensures) (laid .lay-out .ensures)
     _ _ _ (start .start .ensures) (c .finish .ensures .onward)
 
 pub run-of-spec : {M : Type 1} → statement M

@@ -1,14 +1,16 @@
--- `encoder_bit_allocator::steps_held` meets its contract. The loop's invariant: the steps so far.
+-- `allocation_run::steps_held` meets its contract. The loop's invariant: the steps so far.
 use Prim.Native.Nat.{ℕ, _-_, _/_, _%_, _≤_, _<_}
 use mathlib.Core.Path.{_≡_, refl}
 use native.Mathlib.Nat.{not-suc-le-zero}
 use native.Mathlib.Omega.{arith}
 use lib.ListN.{length, getD, length-set}
 use Rattle.tables.proofs.Listed.{filled, listed}
-use Rattle.encoder_bit_allocator.specs.Allocation.{stepsHeld, stepsOf}
-use borrow.Author.Needs.{needs}
-use Rattle.encoder_bit_allocator.proofs.steps_held.Statement.{statement}
-use Rattle.encoder_bit_allocator.proofs.steps_held.Tie as tie
+use Rattle.allocation_run.specs.Laid.{Bytes}
+use Rattle.allocation_run.specs.Steps.{stepsHeld, stepsOf}
+use mir.Syntax.{w8}
+use borrow.Author.Needs.{needs, elem-fits}
+use Rattle.allocation_run.proofs.steps_held.Statement.{statement}
+use Rattle.allocation_run.proofs.steps_held.Tie as tie
 
 abbrev Inv-loop : tie.InvT-loop
 Inv-loop layout places steps₀ slot₀ steps slot =
@@ -21,7 +23,10 @@ loop-holds : tie.Need-loop-holds Inv-loop μ-loop
 loop-holds c = (search needs, (refl, λ k h. absurd (not-suc-le-zero h)))
 
 steps-at-requires : tie.Need-steps-at-requires Inv-loop μ-loop
-steps-at-requires c κs = (search needs, c .before .before .pre)
+unfolding Bytes
+steps-at-requires c κs =
+    let start = c .before .before .before in
+    (search needs, λ f. omega (arith, elem-fits w8 w8 (start .args .t2) _ f (start .good .1 .0 .1 .1) tt))
 
 mul-steps : tie.Need-mul-steps Inv-loop μ-loop
 mul-steps c = search needs
@@ -37,14 +42,15 @@ loop-less c = search needs
 
 loop-again : tie.Need-loop-again Inv-loop μ-loop
 loop-again c =
-    let l = c .before .before .loop in
-    let given = c .before .before .before .args in
-    let h : l .slot < length (l .steps) = rw (l .inv .1 .0) (c .before .loop-test .taken) in
+    let inside = c .before .before in
+    let l = inside .before .loop in
+    let given = inside .before .before .args in
+    let h : l .slot < length (l .steps) = rw (l .inv .1 .0) (inside .loop-test .taken) in
     (
       search needs,
       (
         simp length-set (l .inv .1 .0),
-        filled (λ k n. n ≡ stepsHeld (given .layout) (given .places .now) (k / 32) (k % 32)) (l .steps) (l .slot) _ 0 h (l .inv .1 .1) (c .steps-at .ensures)
+        filled (λ k n. n ≡ stepsHeld (given .layout) (given .t2) (k / 32) (k % 32)) (l .steps) (l .slot) _ 0 h (l .inv .1 .1) (c .steps-at .ensures)
       )
     )
 

@@ -1,0 +1,4 @@
+pub mod HeldLaws
+pub mod RuleLaws
+pub mod LaidLaws
+pub mod RunLaws
