@@ -5,7 +5,7 @@ use mathlib.Core.List.{List, [], _∷_}
 use Prim.Native.Nat.{ℕ, zero, suc, _+_, _-_, _*_, _≤_, _<_}
 use native.Mathlib.Nat.{zero-div}
 use native.Mathlib.Omega.{arith}
-use lib.Dec.{T, leb, eqb, lit≤}
+use lib.Dec.{T, eqb, lit≤}
 use lib.Ieee.{Float, nan, binary64, fits}
 use lib.ListN.{getD}
 use mir.Val.{Val}
@@ -13,25 +13,28 @@ use denote.Shadow.{shadow}
 use denote.Laws.{Is}
 use denote.Array.{Array, each, inArray}
 use denote.Floats.{FloatOf, passes}
-use borrow.Author.Tests.{eqb-true, le-leb, lt-leb, leb-true, leb-false}
+use borrow.Author.Tests.{eqb-true, le-leb, lt-leb}
 use Rattle.header.specs.Questions.{number}
 use Rattle.header.specs.Header.{frameBytes, freeFormat}
 use Rattle.header.proofs.QuestionLaws.{behind, all-yes, some-no, said-yes, said-no}
 use Rattle.layout.specs.declared.Layout.{Layout}
+use Rattle.audio_data.specs.declared.AudioData.{AudioData}
+use Rattle.audio_data.specs.Record.{fresh}
 use Rattle.encoder_bit_budget.specs.declared.Request.{Request}
 use Rattle.encoder_bit_budget.specs.declared.FixedBitBudget.{FixedBitBudget}
 use Rattle.encoder_bit_budget.specs.declared.BitAllocError.{BitAllocError}
 use Rattle.encoder_bit_budget.specs.declared.BitAllocError.the-variants.{NoBitallocTable, ZeroSampleRate, FrameTooLarge}
 use Rattle.encoder_bit_budget.specs.declared.Budget.the-variants.{Ok, Refused}
-use Rattle.encoder_bit_budget.specs.Budget.{headerAsked, errorNumber, budgetIn, budgetOf, budgetUnder, budgetWith, layoutIn, fixedIn, cbOf, fixedOf, offeredOf, natural}
+use Rattle.encoder_bit_budget.specs.Budget.{headerAsked, errorNumber, budgetIn, budgetOf, budgetUnder, budgetWith, layoutIn, fixedIn, offeredIn, offeredOf, natural}
 use Rattle.encoder_bit_demand.specs.Demand.{smrAt}
-use Rattle.encoder_bit_budget.proofs.BudgetLaws.{refusing-header, answer-is, accepted-is, cb-is}
+use Rattle.encoder_bit_budget.proofs.BudgetLaws.{refusing-header, answer-is, accepted-is}
 use Rattle.encoder_bit_budget.proofs.AvailableLaws.{natural-minus}
+use Rattle.allocation_rounds.specs.declared.Run.{Run}
+use Rattle.allocation_run.specs.Steps.{runOf, stepsOf}
+use Rattle.allocation_run.proofs.RunLaws.{same-run}
 use Rattle.encoder_bit_allocator.specs.declared.Allocation.{Allocation}
-use Rattle.encoder_bit_allocator.specs.Entries.{worstCase}
-use Rattle.encoder_bit_allocator.specs.Allocation.{bitsAsked, allocationAsked, accepted, refused, short, layoutFor, allocationOf, Worth, AllocationIs}
-use Rattle.encoder_bit_allocator.specs.Laid.{CostsAre, allocationUnder}
-use Rattle.encoder_bit_allocator.proofs.RunLaws.{same-costs}
+use Rattle.encoder_bit_allocator.specs.Allocation.{bitsAsked, allocationAsked, worstCase, withSteps, accepted, refused, short, layoutFor, allocationIn, allocationOf, Worth, AllocationIs}
+use Rattle.encoder_bit_allocator.specs.OnTheWay.{CostsAre, allocationUnder}
 use Rattle.encoder_bit_allocator.proofs.WorthLaws.{worth}
 
 -- ---- the ratios that are handed in are of the format
@@ -57,19 +60,26 @@ smr-fits smr vs p = row-fits smr (p .0) (p .1 .1)
 -- ---- the number
 
 module _ (q : Request) where
+  abbrev asked : FixedBitBudget
+  asked = budgetOf q .budget
+
   -- where the header's questions are answered yes the bits are asked
-  then-bits : number (headerAsked (q .header)) ≡ 0 → number (allocationAsked q) ≡ number (bitsAsked q ∷ [])
-  then-bits z = behind 0 (headerAsked (q .header)) (bitsAsked q ∷ []) ∙ all-yes (number (bitsAsked q ∷ [])) (headerAsked (q .header)) (refusing-header (q .header)) z
+  then-bits : number (headerAsked (q .header)) ≡ 0 → number (allocationAsked q) ≡ number (bitsAsked asked (q .banc) ∷ [])
+  then-bits z =
+      let bits = bitsAsked asked (q .banc) ∷ [] in
+      behind 0 (headerAsked (q .header)) bits ∙ all-yes (number bits) (headerAsked (q .header)) (refusing-header (q .header)) z
 
   -- else they are not
   else-header : eqb (number (headerAsked (q .header))) 0 ≡ false → number (allocationAsked q) ≡ number (headerAsked (q .header))
-  else-header z = behind 0 (headerAsked (q .header)) (bitsAsked q ∷ []) ∙ some-no (number (bitsAsked q ∷ [])) (headerAsked (q .header)) z
+  else-header z =
+      let bits = bitsAsked asked (q .banc) ∷ [] in
+      behind 0 (headerAsked (q .header)) bits ∙ some-no (number bits) (headerAsked (q .header)) z
 
-  enough : number (headerAsked (q .header)) ≡ 0 → fixedOf q + q .banc ≤ cbOf q → number (allocationAsked q) ≡ 0
-  enough z l = then-bits z ∙ said-yes 0 (bitsAsked q) [] (le-leb (fixedOf q + q .banc) (cbOf q) l)
+enough : (b : FixedBitBudget) (banc : ℕ) → fixedIn b + banc ≤ b .cb → number (bitsAsked b banc ∷ []) ≡ 0
+enough b banc l = said-yes 0 (bitsAsked b banc) [] (le-leb (fixedIn b + banc) (b .cb) l)
 
-  too-short : number (headerAsked (q .header)) ≡ 0 → cbOf q < fixedOf q + q .banc → number (allocationAsked q) ≡ 4
-  too-short z l = then-bits z ∙ said-no 0 (bitsAsked q) [] (lt-leb (fixedOf q + q .banc) (cbOf q) l)
+too-short : (b : FixedBitBudget) (banc : ℕ) → b .cb < fixedIn b + banc → number (bitsAsked b banc ∷ []) ≡ 4
+too-short b banc l = said-no 0 (bitsAsked b banc) [] (lt-leb (fixedIn b + banc) (b .cb) l)
 
 -- ---- free format
 
@@ -82,38 +92,33 @@ module _ (q : Request) (free : freeFormat (q .header) ≡ true) where
   free-bytes = rw (eqb-true (q .header .«bit_rate») 0 free, zero-div) (omega (arith, padded (q .header .padding)))
 
   -- the header alone has 32 bits
-  free-short : number (headerAsked (q .header)) ≡ 0 → cbOf q < fixedOf q + q .banc
+  free-short : number (headerAsked (q .header)) ≡ 0 → number (allocationAsked q) ≡ 4
   unfolding budgetUnder budgetWith
   free-short z =
-      let b = budgetOf q .budget in
+      let b = asked q in
       let is : b ≡ budgetUnder q (b .table) = accepted-is q b (λ i. record { answer = sym (answer-is q ∙ z) i; budget = b }) in
       let bhdr : b .bhdr ≡ 32 = ap (λ b. b .bhdr) is in
-      omega (arith, free-bytes)
+      let cb : b .cb ≡ 8 * frameBytes (q .header) = ap (λ b. b .cb) is in
+      then-bits q z ∙ too-short b (q .banc) (omega (arith, free-bytes))
 
 -- ---- the answers
 
 module _ (q : Request) (smr : List (List Float)) where
-  abbrev answer : ℕ → Allocation
-  answer n =
-      cond (eqb n 0) (accepted (layoutFor q) smr (worstCase (layoutFor q)) (natural (offeredOf q))) (cond (eqb n 4) (short (cbOf q) (fixedOf q) (q .banc)) (refused n))
-
-  answered : (n : ℕ) → number (allocationAsked q) ≡ n → answer n ≡ allocationOf q smr
-  unfolding allocationOf
-  answered n e = ap answer (sym e)
-
-  -- the record's number is the answer's, and where it is 0 the budget was accepted
+  -- the record's number is the answer's
   number-is : allocationOf q smr .number ≡ number (allocationAsked q)
-  unfolding allocationOf accepted
+  unfolding allocationOf allocationIn accepted
   number-is = go (number (allocationAsked q)) (eqb (number (allocationAsked q)) 0) (eqb (number (allocationAsked q)) 4) refl refl
     where
       go : (n : ℕ) (a b : Bool) → eqb n 0 ≡ a → eqb n 4 ≡ b
-        → cond a (accepted (layoutFor q) smr (worstCase (layoutFor q)) (natural (offeredOf q))) (cond b (short (cbOf q) (fixedOf q) (q .banc)) (refused n)) .number ≡ n
+        → cond a (accepted (layoutFor q) smr (worstCase (layoutFor q)) (natural (offeredOf q)))
+            (cond b (short (asked q .cb) (fixedIn (asked q)) (q .banc)) (refused n)) .number ≡ n
       go n true b z f = sym (eqb-true n 0 z)
       go n false true z f = sym (eqb-true n 4 f)
       go n false false z f = refl
 
-  pub accepted-budget : allocationOf q smr .number ≡ 0 → budgetIn (Ok (budgetOf q .budget)) ≡ budgetOf q
-  accepted-budget z = λ i. record { answer = sym (answer-is q ∙ header-zero (sym number-is ∙ z)) i; budget = budgetOf q .budget }
+  -- where it is 0 the budget was accepted
+  pub accepted-budget : allocationOf q smr .number ≡ 0 → budgetIn (Ok (asked q)) ≡ budgetOf q
+  accepted-budget z = λ i. record { answer = sym (answer-is q ∙ header-zero (sym number-is ∙ z)) i; budget = asked q }
     where
       header-zero : number (allocationAsked q) ≡ 0 → number (headerAsked (q .header)) ≡ 0
       header-zero e = go (eqb (number (headerAsked (q .header))) 0) refl
@@ -122,89 +127,85 @@ module _ (q : Request) (smr : List (List Float)) where
           go true p = eqb-true (number (headerAsked (q .header))) 0 p
           go false p = sym (else-header q p) ∙ e
 
-  free-number : freeFormat (q .header) ≡ true → number (headerAsked (q .header)) ≡ 0 → allocationOf q smr .number ≡ 4
-  free-number free z = ap (λ (a : Allocation). a .number) (sym (answered 4 (too-short q z (free-short q free z))))
+  -- what an accepted answer is, and what it is worth
+  where-zero : number (allocationAsked q) ≡ 0 → allocationOf q smr ≡ accepted (layoutFor q) smr (worstCase (layoutFor q)) (natural (offeredOf q))
+  unfolding allocationOf allocationIn
+  where-zero z = ap (allocationIn (asked q) smr (q .banc)) z
 
-  -- the whole answer, and what it is worth
-  answers : (r : Allocation) → r ≡ allocationOf q smr
-    → (r .number ≡ 0 → Worth (layoutFor q) smr (worstCase (layoutFor q)) (natural (offeredOf q)) (r .audio .«nb_steps») (r .left)) → AllocationIs q smr r
-  answers r whole worth = record { whole = whole; worth = worth; free = λ f z. ap (λ (a : Allocation). a .number) whole ∙ free-number f z }
+  accepted-worth : ((ch sb : ℕ) → T (fits binary64 (smrAt smr ch sb))) → (r : Allocation)
+    → r ≡ accepted (layoutFor q) smr (worstCase (layoutFor q)) (natural (offeredOf q))
+    → Worth (layoutFor q) smr (worstCase (layoutFor q)) (natural (offeredOf q)) (r .audio .«nb_steps») (r .left)
+  unfolding accepted
+  accepted-worth fit r e =
+      subst (λ (a : Allocation). Worth (layoutFor q) smr (worstCase (layoutFor q)) (natural (offeredOf q)) (a .audio .«nb_steps») (a .left)) (sym e)
+      (worth (layoutFor q) smr (worstCase (layoutFor q)) (natural (offeredOf q)) fit)
+
+  -- the whole answer keeps the promise
+  pub answers : (r : Allocation) → ((ch sb : ℕ) → T (fits binary64 (smrAt smr ch sb))) → r ≡ allocationOf q smr → AllocationIs q smr r
+  answers r fit whole =
+      let n : r .number ≡ number (allocationAsked q) = ap (λ (a : Allocation). a .number) whole ∙ number-is in
+      record {
+        whole = whole;
+        worth = λ z. accepted-worth fit r (whole ∙ where-zero (sym n ∙ z));
+        free = λ f z. n ∙ free-short q f z
+      }
 
   -- the header is refused
-  pub is-refused : (e : BitAllocError) (n : ℕ) (r : Allocation) → budgetIn (Refused e) ≡ budgetOf q → n ≡ errorNumber e → r ≡ refused n → AllocationIs q smr r
-  is-refused e n r p s made =
+  pub from-refused : (e : BitAllocError) (n : ℕ) (r : Allocation) → budgetIn (Refused e) ≡ budgetOf q → n ≡ errorNumber e → r ≡ refused n
+    → r ≡ allocationOf q smr
+  unfolding allocationOf allocationIn
+  from-refused e n r p s made =
       let z : number (headerAsked (q .header)) ≡ errorNumber e = sym (answer-is q) ∙ sym (ap (λ a. a .answer) p) in
-      let w : r ≡ refused (errorNumber e) = made ∙ ap refused s in
-      answers r (w ∙ is e ∙ answered (errorNumber e) (else-header q (rw z (apart e)) ∙ z))
-      (λ o. absurd (not-zero e (sym (ap (λ (a : Allocation). a .number) w) ∙ o)))
+      made ∙ ap refused s ∙ is e ∙ ap (allocationIn (asked q) smr (q .banc)) (sym (else-header q (rw z (apart e)) ∙ z))
     where
       apart : (e : BitAllocError) → eqb (errorNumber e) 0 ≡ false
       apart NoBitallocTable = refl
       apart ZeroSampleRate = refl
       apart FrameTooLarge = refl
-      not-zero : (e : BitAllocError) → errorNumber e ≡ 0 → ⊥
-      not-zero NoBitallocTable z = omega arith
-      not-zero ZeroSampleRate z = omega arith
-      not-zero FrameTooLarge z = omega arith
-      is : (e : BitAllocError) → refused (errorNumber e) ≡ answer (errorNumber e)
+      is : (e : BitAllocError) → refused (errorNumber e) ≡ allocationIn (asked q) smr (q .banc) (errorNumber e)
       is NoBitallocTable = refl
       is ZeroSampleRate = refl
       is FrameTooLarge = refl
 
-  module _ (b : FixedBitBudget) (ok : budgetIn (Ok b) ≡ budgetOf q) where
-    all-asked : number (headerAsked (q .header)) ≡ 0
-    all-asked = sym (answer-is q) ∙ sym (ap (λ a. a .answer) ok)
-
-    same-fixed : fixedIn b ≡ fixedOf q
-    same-fixed = ap (λ a. fixedIn (a .budget)) ok
-
-    same-offered : b .cb - (fixedIn b + q .banc) ≡ natural (offeredOf q)
-    same-offered = ap₂ (λ (x y : ℕ). x - (y + q .banc)) (cb-is q b ok) same-fixed ∙ sym (natural-minus (cbOf q) (fixedOf q + q .banc))
-
-    -- the frame is too small
-    is-short : leb (fixedIn b + q .banc) (b .cb) ≡ false → AllocationIs q smr (short (b .cb) (fixedIn b) (q .banc))
-    is-short e =
-        let l = leb-false (fixedIn b + q .banc) (b .cb) e in
-        let m : cbOf q < fixedOf q + q .banc = subst (λ (n : ℕ). n < fixedOf q + q .banc) (cb-is q b ok) (subst (λ (n : ℕ). b .cb < n + q .banc) same-fixed l) in
-        answers _
-        ((λ i. short (cb-is q b ok i) (same-fixed i) (q .banc)) ∙ answered 4 (too-short q all-asked m))
-        (λ o. absurd (let z : _≡_ {A = ℕ} 4 0 = o in omega arith))
-
-    -- accepted
-    is-accepted : ((ch sb : ℕ) → T (fits binary64 (smrAt smr ch sb))) → leb (fixedIn b + q .banc) (b .cb) ≡ true
-      → AllocationIs q smr (accepted (layoutIn b) smr (worstCase (layoutIn b)) (b .cb - (fixedIn b + q .banc)))
-    unfolding accepted
-    is-accepted fit e =
-        let m = leb-true (fixedIn b + q .banc) (b .cb) e in
-        let m′ : fixedOf q + q .banc ≤ cbOf q = subst (λ (n : ℕ). fixedOf q + q .banc ≤ n) (cb-is q b ok) (subst (λ (n : ℕ). n + q .banc ≤ b .cb) same-fixed m) in
-        let w = ap₂ (λ (l : Layout) (n : ℕ). accepted l smr (worstCase l) n) (ap (λ a. layoutIn (a .budget)) ok) same-offered in
-        answers _ (w ∙ answered 0 (enough q all-asked m′))
-        (λ z. subst (λ (a : Allocation). Worth (layoutFor q) smr (worstCase (layoutFor q)) (natural (offeredOf q)) (a .audio .«nb_steps») (a .left)) (sym w)
-        (worth (layoutFor q) smr (worstCase (layoutFor q)) (natural (offeredOf q)) fit))
-
-    pub is-under : (r : Allocation) → ((ch sb : ℕ) → T (fits binary64 (smrAt smr ch sb))) → r ≡ allocationUnder b smr (q .banc) → AllocationIs q smr r
-    unfolding allocationUnder
-    is-under r fit p = subst (AllocationIs q smr) (sym p) (go (leb (fixedIn b + q .banc) (b .cb)) refl)
-      where
-        go : (v : Bool) → leb (fixedIn b + q .banc) (b .cb) ≡ v
-          → AllocationIs q smr (cond v (accepted (layoutIn b) smr (worstCase (layoutIn b)) (b .cb - (fixedIn b + q .banc))) (short (b .cb) (fixedIn b) (q .banc)))
-        go true e = is-accepted fit e
-        go false e = is-short e
+  -- it is accepted, and the bits are asked
+  pub from-accepted : (b : FixedBitBudget) (r : Allocation) → budgetIn (Ok b) ≡ budgetOf q → r ≡ allocationUnder b smr (q .banc) → r ≡ allocationOf q smr
+  unfolding allocationOf allocationUnder
+  from-accepted b r ok p =
+      let z : number (headerAsked (q .header)) ≡ 0 = sym (answer-is q) ∙ sym (ap (λ a. a .answer) ok) in
+      p ∙ ap (λ a. allocationUnder (a .budget) smr (q .banc)) ok ∙ ap (allocationIn (asked q) smr (q .banc)) (sym (then-bits q z))
 
 -- ---- under an accepted budget, as the code finds it
+
+-- what `accepted` answers
+pub made : (l : Layout) (smr : List (List Float)) (costs : List ℕ) (offered : ℕ) (r : Run) (d : AudioData) (steps : List ℕ)
+  → r ≡ runOf l smr costs offered → d ≡ fresh l → steps ≡ stepsOf l (r .places)
+  → _≡_ {A = Allocation} (record { number = 0; audio = withSteps d steps; left = r .left; cb = 0; fixed = 0; banc = 0 }) (accepted l smr costs offered)
+unfolding accepted
+made l smr costs offered r d steps w e q =
+    let s = q ∙ ap (λ (s : Run). stepsOf l (s .places)) w in
+    λ i. record { number = 0; audio = withSteps (e i) (s i); left = w i .left; cb = 0; fixed = 0; banc = 0 }
+
+same-costs : (l : Layout) (smr : List (List Float)) (costs : List ℕ) (offered : ℕ) → CostsAre l costs
+  → accepted l smr costs offered ≡ accepted l smr (worstCase l) offered
+unfolding accepted CostsAre
+same-costs l smr costs offered c =
+    ap (λ (s : Run). record { number = 0; audio = withSteps (fresh l) (stepsOf l (s .places)); left = s .left; cb = 0; fixed = 0; banc = 0 })
+    (same-run l smr costs (worstCase l) offered c)
 
 module _ (b : FixedBitBudget) (smr : List (List Float)) (banc : ℕ) where
   pub under-accepted : (r : Allocation) (l : Layout) (costs : List ℕ) (fixed : ℕ) → fixed ≡ fixedIn b → fixed + banc ≤ b .cb → l ≡ layoutIn b → CostsAre l costs
     → r ≡ accepted l smr costs (b .cb - (fixed + banc)) → r ≡ allocationUnder b smr banc
-  unfolding allocationUnder
+  unfolding allocationUnder allocationIn
   under-accepted r l costs fixed f m e c p =
       let k : fixedIn b + banc ≤ b .cb = subst (λ (n : ℕ). n + banc ≤ b .cb) f m in
-      rw (le-leb (fixedIn b + banc) (b .cb) k)
-      (p ∙ same-costs l smr costs (b .cb - (fixed + banc)) c
-      ∙ ap₂ (λ (l : Layout) (n : ℕ). accepted l smr (worstCase l) (b .cb - (n + banc))) e f)
+      let o : b .cb - (fixed + banc) ≡ natural (offeredIn b banc) =
+          ap (λ (n : ℕ). b .cb - (n + banc)) f ∙ sym (natural-minus (b .cb) (fixedIn b + banc)) in
+      p ∙ same-costs l smr costs (b .cb - (fixed + banc)) c
+      ∙ ap₂ (λ (l : Layout) (n : ℕ). accepted l smr (worstCase l) n) e o
+      ∙ ap (allocationIn b smr banc) (sym (enough b banc k))
 
   pub under-short : (r : Allocation) (fixed : ℕ) → fixed ≡ fixedIn b → b .cb < fixed + banc → r ≡ short (b .cb) fixed banc → r ≡ allocationUnder b smr banc
-  unfolding allocationUnder
+  unfolding allocationUnder allocationIn
   under-short r fixed f m p =
       let k : b .cb < fixedIn b + banc = subst (λ (n : ℕ). b .cb < n + banc) f m in
-      rw (lt-leb (fixedIn b + banc) (b .cb) k) (p ∙ ap (λ (n : ℕ). short (b .cb) n banc) f)
+      p ∙ ap (λ (n : ℕ). short (b .cb) n banc) f ∙ ap (allocationIn b smr banc) (sym (too-short b banc k))

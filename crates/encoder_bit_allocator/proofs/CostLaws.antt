@@ -1,32 +1,27 @@
 -- The worst case of the first steps' costs, field by field.
-use mathlib.Core.Path.{_≡_, refl, sym, ap, _∙_, subst}
+use mathlib.Core.Path.{_≡_, refl, sym, ap, _∙_}
 use mathlib.Core.List.{List}
 use Prim.Native.Nat.{ℕ, _+_, _≤_, _<_}
-use native.Mathlib.Nat.{not-suc-le-zero, le-trans}
-use native.Mathlib.Decide.{ℕ-discrete}
+use native.Mathlib.Nat.{not-suc-le-zero}
 use native.Mathlib.Omega.{arith}
-use lib.Dec.{lit≤}
 use lib.ListN.{length, getD, set, replicate, length-set}
-use lib.Seq.{getD-set-same, getD-set-other}
 use Rattle.tables.proofs.Listed.{filled, map-at}
 use Rattle.layout.specs.declared.Layout.{Layout}
 use Rattle.layout.specs.declared.AllocationField.{AllocationField}
 use Rattle.layout.specs.Layout.{own, fieldsOf, fieldIn}
 use Rattle.layout.proofs.FieldLaws.{few}
-use Rattle.allocation_rounds.proofs.OnTheWay.{zeros}
 use Rattle.encoder_bit_demand.specs.Demand.{firstStep, FirstStepIs}
-use Rattle.encoder_bit_allocator.specs.Entries.{worstCase}
-use Rattle.encoder_bit_allocator.specs.Laid.{Modest, CostsAre}
+use Rattle.encoder_bit_allocator.specs.Allocation.{worstCase}
+use Rattle.encoder_bit_allocator.specs.OnTheWay.{CostsAre}
 
--- the costs of the first n fields, and none above 40
+-- the costs of the first n fields
 pub record Costed (l : Layout) (costs : List ℕ) (n : ℕ) : Type 0 where
   pub long : length costs ≡ 64
   pub cost : (f : ℕ) → f < n → getD costs f 0 ≡ firstStep (fieldIn (fieldsOf l) f)
-  pub most : (f : ℕ) → getD costs f 0 ≤ 40
 
 module _ (l : Layout) where
   pub none-costed : Costed l (replicate 64 0) 0
-  none-costed = record { long = refl; cost = λ f h. absurd (not-suc-le-zero h); most = λ f. rw (zeros 64 f) (lit≤ tt) }
+  none-costed = record { long = refl; cost = λ f h. absurd (not-suc-le-zero h) }
 
   pub one-more-costed : (costs : List ℕ) (n : ℕ) (x : AllocationField) (c : ℕ) → n < length (fieldsOf l) → Costed l costs n
     → x ≡ fieldIn (fieldsOf l) n → FirstStepIs x c → Costed l (set costs n c) (n + 1)
@@ -34,17 +29,9 @@ module _ (l : Layout) where
       let b : n < length costs = rw (k .long) (omega (arith, few l)) in
       record {
         long = simp length-set (k .long);
-        cost = filled (λ f v. v ≡ firstStep (fieldIn (fieldsOf l) f)) costs n c 0 b (k .cost) (s .whole ∙ ap firstStep e);
-        most = λ f. go f b (ℕ-discrete f n)
+        cost = filled (λ f v. v ≡ firstStep (fieldIn (fieldsOf l) f)) costs n c 0 b (k .cost) (s .whole ∙ ap firstStep e)
       }
-    where
-      go : (f : ℕ) → n < length costs → Dec (f ≡ n) → getD (set costs n c) f 0 ≤ 40
-      go f b (yes i) = subst (λ (g : ℕ). getD (set costs n c) g 0 ≤ 40) (sym i) (rw (getD-set-same costs n c 0 b) (s .most))
-      go f b (no i) = rw (getD-set-other costs n f c 0 (λ j. i j)) (k .most f)
 
   pub all-costed : (costs : List ℕ) (n : ℕ) → length (fieldsOf l) ≤ n → Costed l costs n → CostsAre l costs
-  unfolding worstCase Modest
-  all-costed costs n h k = record {
-    cost = λ f g. k .cost f (omega arith) ∙ sym (map-at firstStep (fieldsOf l) f (own 0 0) 0 g);
-    modest = λ f. le-trans (k .most f) (lit≤ tt)
-  }
+  unfolding worstCase CostsAre
+  all-costed costs n h k = λ f g. k .cost f (omega arith) ∙ sym (map-at firstStep (fieldsOf l) f (own 0 0) 0 g)

@@ -23,12 +23,14 @@ use Rattle.allocation_rounds.specs.Promises.{charged, Counting, Spent, Exchange
 use Rattle.allocation_rounds.proofs.Floats.{floats}
 use Rattle.allocation_rounds.proofs.OnTheWay.{OnTheWay, end-way, end-over, end-spent}
 use Rattle.allocation_rounds.proofs.Exchange.{end-exchanged}
-use Rattle.encoder_bit_allocator.specs.Entries.{Entry, entryIn, entryOf, rulesOf, entriesOf}
-use Rattle.encoder_bit_allocator.specs.Allocation.{stepsBy, stepsOf, runOf, fieldSteps, placesFrom, NoNan, Worth}
-use Rattle.encoder_bit_allocator.proofs.LaidLaws.{entries-count, entry-at}
-use Rattle.encoder_bit_allocator.proofs.RuleLaws.{Numbers, counting, rising, up-to-top}
-use Rattle.encoder_bit_allocator.proofs.RunLaws.{sound}
-use Rattle.encoder_bit_allocator.proofs.HeldLaws.{at-slot, slot-steps, field-steps, places-back}
+use Rattle.allocation_run.specs.Entries.{Entry, entryIn, entryOf, rulesOf, entriesOf}
+use Rattle.allocation_run.specs.Steps.{stepsBy, stepsOf, runOf}
+use Rattle.allocation_run.proofs.LaidLaws.{entries-count, entry-at}
+use Rattle.allocation_run.proofs.RuleLaws.{Numbers, counting, rising, up-to-top}
+use Rattle.allocation_run.proofs.RunLaws.{sound}
+use Rattle.allocation_run.proofs.HeldLaws.{at-slot, slot-steps}
+use Rattle.encoder_bit_allocator.specs.Allocation.{fieldSteps, placesFrom, NoNan, Worth}
+use Rattle.encoder_bit_allocator.proofs.StandingLaws.{field-steps, places-back}
 
 -- ---- promises speak of the places only at each field
 

@@ -7,7 +7,6 @@ use mathlib.Core.Option.{Option, none, some}
 use lib.Dec.{T, leb, eqb}
 use lib.Ieee.{Float, isNan}
 use lib.ListN.{length, getD}
-use Rattle.tables.specs.Listed.{tabulate}
 use Rattle.tables.specs.Search.{place, oneOf}
 use Rattle.header.specs.Questions.{Question, number}
 use Rattle.header.specs.Header.{freeFormat}
@@ -15,27 +14,28 @@ use Rattle.bitalloc.specs.declared.BitAllocTable.{BitAllocTable}
 use Rattle.bitalloc.specs.Tables.{rowOf}
 use Rattle.layout.specs.declared.Layout.{Layout}
 use Rattle.layout.specs.declared.AllocationField.{AllocationField}
-use Rattle.layout.specs.Slots.{slotOf, channelIn, subbandIn}
+use Rattle.layout.specs.Slots.{slotOf}
 use Rattle.layout.specs.Layout.{served, fieldsOf, fieldIn, servedBy}
 use Rattle.audio_data.specs.declared.AudioData.{AudioData}
 use Rattle.audio_data.specs.Record.{fresh, filler}
 use Rattle.encoder_bit_budget.specs.declared.Request.{Request}
-use Rattle.encoder_bit_budget.specs.Budget.{headerAsked, budgetOf, layoutIn, cbOf, fixedOf, offeredOf, natural}
-use Rattle.encoder_bit_demand.specs.Demand.{smrAt}
-use Rattle.allocation_rounds.specs.declared.Run.{Run}
-use Rattle.allocation_rounds.specs.Rounds.{started, ended, placeIn}
+use Rattle.encoder_bit_budget.specs.declared.FixedBitBudget.{FixedBitBudget}
+use Rattle.encoder_bit_budget.specs.Budget.{headerAsked, budgetOf, layoutIn, fixedIn, offeredIn, offeredOf, natural}
+use Rattle.encoder_bit_demand.specs.Demand.{smrAt, firstStep}
+use Rattle.allocation_rounds.specs.Rounds.{placeIn}
 use Rattle.allocation_rounds.specs.Promises.{Over, Accounted, Spent, Exchanged}
 use Rattle.encoder_bit_allocator.specs.declared.Allocation.{Allocation}
-use Rattle.encoder_bit_allocator.specs.Entries.{rulesOf, entriesOf, worstCase}
+use Rattle.allocation_run.specs.Entries.{rulesOf, entriesOf}
+use Rattle.allocation_run.specs.Steps.{runOf, stepsOf}
 
 -- ---- the whole answer
 
 -- question 4: the fixed bits and the caller's fit the frame, as whole numbers
-abbrev pub bitsAsked : Request → Question ℕ
-bitsAsked q = record { yes = leb (fixedOf q + q .banc) (cbOf q); otherwise = 4 }
+abbrev pub bitsAsked : FixedBitBudget → ℕ → Question ℕ
+bitsAsked b banc = record { yes = leb (fixedIn b + banc) (b .cb); otherwise = 4 }
 
 abbrev pub allocationAsked : Request → List (Question ℕ)
-allocationAsked q = headerAsked (q .header) ++ (bitsAsked q ∷ [])
+allocationAsked q = headerAsked (q .header) ++ (bitsAsked (budgetOf q .budget) (q .banc) ∷ [])
 
 -- the worst case of scfsi and scalefactors as the first steps' costs
 unfoldable pub worstCase : Layout → List ℕ
@@ -73,16 +73,20 @@ refused n = record { number = n; audio = filler; left = 0; cb = 0; fixed = 0; ba
 abbrev pub short : ℕ → ℕ → ℕ → Allocation
 short cb fixed banc = record { number = 4; audio = filler; left = 0; cb = cb; fixed = fixed; banc = banc }
 
+-- the answer by its number, under the budget that was asked for
+unfoldable pub allocationIn : FixedBitBudget → List (List Float) → ℕ → ℕ → Allocation
+unfolding accepted worstCase
+allocationIn b smr banc n =
+    let l = layoutIn b in
+    cond (eqb n 0) (accepted l smr (worstCase l) (natural (offeredIn b banc))) (cond (eqb n 4) (short (b .cb) (fixedIn b) banc) (refused n))
+
+unfoldable pub allocationOf : Request → List (List Float) → Allocation
+unfolding allocationIn
+allocationOf q smr = allocationIn (budgetOf q .budget) smr (q .banc) (number (allocationAsked q))
+
 -- the layout of a request that is accepted
 abbrev pub layoutFor : Request → Layout
 layoutFor q = layoutIn (budgetOf q .budget)
-
-unfoldable pub allocationOf : Request → List (List Float) → Allocation
-unfolding accepted worstCase
-allocationOf q smr =
-    let n = number (allocationAsked q) in
-    let l = layoutFor q in
-    cond (eqb n 0) (accepted l smr (worstCase l) (natural (offeredOf q))) (cond (eqb n 4) (short (cbOf q) (fixedOf q) (q .banc)) (refused n))
 
 -- ---- what an accepted allocation is worth, said of its steps and of the bits left
 

@@ -35,13 +35,13 @@ fn worst_case(layout: Layout) -> [u16; 64]
 }
 
 // The allocation of the bits offered.
-fn accepted(layout: Layout, smr_db: &[[f64; 32]; 2], costs: &[u16; 64], offered: u32) -> Allocation
-    ensures { λ r. ⌜ r ≡ accepted layout (now («smr_db» .entry)) (now (costs .entry)) offered ⌝ }
+fn accepted(layout: Layout, smr_db: &[[f64; 32]; 2], costs: [u16; 64], offered: u32) -> Allocation
+    ensures { λ r. ⌜ r ≡ accepted layout (now («smr_db» .entry)) costs offered ⌝ }
 {
     let run = allocation_run::run_of(layout, smr_db, costs, offered);
     let mut audio = AudioData::new(layout);
     let places = run.places;
-    let nb_steps = allocation_run::steps_held(layout, &places);
+    let nb_steps = allocation_run::steps_held(layout, places);
     audio.nb_steps = nb_steps;
     Allocation {
         number: 0,
@@ -88,7 +88,7 @@ fn allocate_under(b: FixedBitBudget, smr_db: &[[f64; 32]; 2], banc: u32) -> Allo
     if spent <= (b.cb as u64) {
         let layout = b.layout();
         let costs = worst_case(layout);
-        accepted(layout, smr_db, &costs, b.cb - (spent as u32))
+        accepted(layout, smr_db, costs, b.cb - (spent as u32))
     } else {
         insufficient(b.cb, fixed as u32, banc)
     }

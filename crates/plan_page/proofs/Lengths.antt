@@ -8,7 +8,7 @@ use lib.Ieee.{Float}
 use lib.ListN.{length, length-append}
 use Rattle.layout.specs.declared.Layout.{Layout}
 use Rattle.layout.specs.Layout.{channelCount}
-use Rattle.encoder_bit_allocator.specs.Entries.{slotMnr}
+use Rattle.allocation_run.specs.Entries.{slotMnr}
 use Rattle.plan_text.specs.Quoted.{text}
 use Rattle.text_line.specs.Line.{aligned}
 use Rattle.text_line.specs.Number.{numberText}

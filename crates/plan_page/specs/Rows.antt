@@ -10,7 +10,7 @@ use Rattle.layout.specs.declared.AllocationField.{AllocationField}
 use Rattle.layout.specs.Slots.{slotOf}
 use Rattle.layout.specs.Layout.{channelCount, fieldsOf, sumOver}
 use Rattle.encoder_bit_demand.specs.Demand.{smrAt, firstStep}
-use Rattle.encoder_bit_allocator.specs.Entries.{slotMnr, charge}
+use Rattle.allocation_run.specs.Entries.{slotMnr, charge}
 use Rattle.encoder_bit_allocator.specs.Allocation.{fieldSteps}
 use Rattle.plan_text.specs.Quoted.{text}
 use Rattle.text_line.specs.Line.{aligned}

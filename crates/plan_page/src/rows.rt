@@ -77,7 +77,7 @@ fn row_start(sb: usize) -> Line
 fn slot_columns(line: Line, smr: f64, nb_steps: u32) -> Line
     ensures { λ r. ⌜ textOf r ≡ cut (textOf line ++ slotColumns smr «nb_steps») ⌝ }
 {
-    let left = encoder_bit_allocator::slot_mnr(nb_steps, smr);
+    let left = allocation_run::slot_mnr(nb_steps, smr);
     line.decibels_in(10, smr).number_in(7, nb_steps as u64).decibels_in(10, left).text(b" |")
 }
 
@@ -102,7 +102,7 @@ fn bits_in(field: AllocationField, steps: &[u32; 64], sb: usize) -> u64
 {
     if field.subband == sb {
         let nb_steps = steps[32 * field.channel + field.subband];
-        encoder_bit_allocator::charge(nb_steps, encoder_bit_demand::first_step_bits(field))
+        allocation_run::charge(nb_steps, encoder_bit_demand::first_step_bits(field))
     } else {
         0
     }

@@ -1,5 +1,5 @@
 -- `encoder_bit_allocator::accepted` meets its contract.
-use Rattle.encoder_bit_allocator.proofs.RunLaws.{accepted-is}
+use Rattle.encoder_bit_allocator.proofs.AnswerLaws.{made}
 use borrow.Author.Needs.{needs}
 use Rattle.encoder_bit_allocator.proofs.accepted.Statement.{statement}
 use Rattle.encoder_bit_allocator.proofs.accepted.Tie as tie
@@ -15,8 +15,8 @@ steps-held-requires c κs = search needs
 
 returns : tie.Need-returns
 returns c =
-    let new = c .before .before .before in
-    accepted-is _ _ _ _ _ _ _ (new .before .run-of .ensures) (new .new .ensures) (c .steps-held .ensures)
+    let new = c .before .before in
+    made _ _ _ _ _ _ _ (new .before .run-of .ensures) (new .new .ensures) (c .steps-held .ensures)
 
 pub accepted-spec : {M : Type 1} → statement M
 accepted-spec = tie.close (tie.spec run-of-requires new-requires steps-held-requires returns)

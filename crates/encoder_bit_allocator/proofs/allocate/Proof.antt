@@ -1,7 +1,7 @@
 -- `encoder_bit_allocator::allocate` meets its contract: each return has its law of the answers.
 use mathlib.Core.Path.{sym, ap, _∙_}
 use Rattle.encoder_bit_budget.specs.Budget.{budgetIn}
-use Rattle.encoder_bit_allocator.proofs.AnswerLaws.{smr-fits, is-refused, is-under}
+use Rattle.encoder_bit_allocator.proofs.AnswerLaws.{smr-fits, answers, from-refused, from-accepted}
 use borrow.Author.Needs.{needs}
 use Rattle.encoder_bit_allocator.proofs.allocate.Statement.{statement}
 use Rattle.encoder_bit_allocator.proofs.allocate.Tie as tie
@@ -33,13 +33,17 @@ returns c =
     let held = known .budget2 .given in
     let asked = known .before .before in
     let start = asked .before in
-    is-under _ _ (held .0 .0) (ap budgetIn (sym (held .1)) ∙ asked .budget .ensures .whole) _ (smr-fits (start .args .t2) _ (start .good .1 .0)) (c .allocate-under .ensures)
+    answers _ _ _ (smr-fits (start .args .t2) _ (start .good .1 .0))
+    (from-accepted _ _ (held .0 .0) _ (ap budgetIn (sym (held .1)) ∙ asked .budget .ensures .whole) (c .allocate-under .ensures))
 
 returns-2 : tie.Need-returns-2
 returns-2 c =
     let known = c .before .before .before in
     let held = known .budget3 .given in
-    is-refused _ _ (held .0 .0) _ _ (ap budgetIn (sym (held .1)) ∙ known .before .before .budget .ensures .whole) (c .before .number .ensures) (c .refusal .ensures)
+    let asked = known .before .before in
+    let start = asked .before in
+    answers _ _ _ (smr-fits (start .args .t2) _ (start .good .1 .0))
+    (from-refused _ _ (held .0 .0) _ _ (ap budgetIn (sym (held .1)) ∙ asked .budget .ensures .whole) (c .before .number .ensures) (c .refusal .ensures))
 
 pub allocate-spec : {M : Type 1} → statement M
 allocate-spec =

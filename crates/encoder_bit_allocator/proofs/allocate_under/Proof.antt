@@ -37,7 +37,7 @@ insufficient-requires c κs = search needs
 
 returns : tie.Need-returns
 returns c =
-    let costs = c .before .before .before in
+    let costs = c .before .before in
     let layout = costs .before in
     let test = layout .before in
     let fixed = test .before .before in

@@ -28,6 +28,9 @@ field-requires c κs = search needs
 first-step-bits-requires : tie.Need-first-step-bits-requires Inv-loop μ-loop
 first-step-bits-requires c κs = search needs
 
+cast-costs : tie.Need-cast-costs Inv-loop μ-loop
+cast-costs c = omega (arith, c .first-step-bits .ensures .most)
+
 mul-costs : tie.Need-mul-costs Inv-loop μ-loop
 mul-costs c = search needs
 
@@ -62,6 +65,7 @@ worst-case-spec =
     loop-holds
     field-requires
     first-step-bits-requires
+    cast-costs
     mul-costs
     array-write-costs
     add-f

@@ -22,8 +22,9 @@ use Rattle.encoder_bit_demand.specs.Snr.{snrOf}
 use Rattle.encoder_bit_budget.specs.Budget.{budgetOf}
 use Rattle.allocation_rounds.specs.Rounds.{Rules, price, ended}
 use Rattle.allocation_rounds.proofs.OnTheWay.{end-untouched}
-use Rattle.encoder_bit_allocator.specs.Entries.{rulesOf, entriesOf, worstCase}
-use Rattle.encoder_bit_allocator.specs.Allocation.{stepsOf, allocationOf}
+use Rattle.allocation_run.specs.Entries.{rulesOf, entriesOf}
+use Rattle.allocation_run.specs.Steps.{stepsOf}
+use Rattle.encoder_bit_allocator.specs.Allocation.{worstCase, allocationOf}
 use Rattle.worked_cases.specs.Cases.{cases, any, allocation, allocated, mono, idle, answerTo, Hold}
 use Rattle.worked_cases.proofs.count.Statement.{statement}
 use Rattle.worked_cases.proofs.count.Tie as tie
