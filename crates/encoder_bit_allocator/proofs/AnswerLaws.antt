@@ -116,17 +116,6 @@ module _ (q : Request) (smr : List (List Float)) where
       go n false true z f = sym (eqb-true n 4 f)
       go n false false z f = refl
 
-  -- where it is 0 the budget was accepted
-  pub accepted-budget : allocationOf q smr .number ≡ 0 → budgetIn (Ok (asked q)) ≡ budgetOf q
-  accepted-budget z = λ i. record { answer = sym (answer-is q ∙ header-zero (sym number-is ∙ z)) i; budget = asked q }
-    where
-      header-zero : number (allocationAsked q) ≡ 0 → number (headerAsked (q .header)) ≡ 0
-      header-zero e = go (eqb (number (headerAsked (q .header))) 0) refl
-        where
-          go : (b : Bool) → eqb (number (headerAsked (q .header))) 0 ≡ b → number (headerAsked (q .header)) ≡ 0
-          go true p = eqb-true (number (headerAsked (q .header))) 0 p
-          go false p = sym (else-header q p) ∙ e
-
   -- what an accepted answer is, and what it is worth
   where-zero : number (allocationAsked q) ≡ 0 → allocationOf q smr ≡ accepted (layoutFor q) smr (worstCase (layoutFor q)) (natural (offeredOf q))
   unfolding allocationOf allocationIn

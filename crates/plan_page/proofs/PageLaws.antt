@@ -16,13 +16,10 @@ use Rattle.encoder_bit_budget.specs.declared.FixedBitBudget.{FixedBitBudget}
 use Rattle.encoder_bit_budget.specs.declared.Request.{Request}
 use Rattle.encoder_bit_budget.specs.declared.BitAllocError.{BitAllocError}
 use Rattle.encoder_bit_budget.specs.declared.Budget.the-variants.{Refused}
-use Rattle.encoder_bit_budget.specs.Budget.{BudgetAnswer, plain, budgetIn, budgetOf, noBudget, layoutIn, fixedIn, cbOf, fixedOf, offeredOf, natural}
-use Rattle.encoder_bit_budget.proofs.BudgetLaws.{cb-is}
-use Rattle.encoder_bit_budget.proofs.AvailableLaws.{natural-minus}
+use Rattle.encoder_bit_budget.specs.Budget.{BudgetAnswer, plain, budgetIn, budgetOf, noBudget, layoutIn, offeredIn, offeredOf, natural}
 use Rattle.encoder_bit_demand.specs.Demand.{demandOf}
 use Rattle.encoder_bit_allocator.specs.declared.Allocation.{Allocation}
 use Rattle.encoder_bit_allocator.specs.Allocation.{allocationOf}
-use Rattle.encoder_bit_allocator.proofs.AnswerLaws.{accepted-budget}
 use Rattle.plan_page.specs.Rows.{subbandLine}
 use Rattle.plan_lines.specs.Refusal.{refusalLine}
 use Rattle.plan_page.specs.Page.{headOf, footOf, acceptedPage, pageBy, pageOf}
@@ -52,26 +49,18 @@ module _ (h : FrameHeader) (banc : ℕ) (smr : List (List Float)) (a : Allocatio
   unfolding pageOf
   by = ap (pageBy (freeFormat h) smr (budgetOf q .budget) (natural (offeredOf q)) (demandOf h smr .bits)) (sym e)
 
-  -- what is offered, from an accepted budget
-  offered-is : (b : FixedBitBudget) → b ≡ budgetOf q .budget → a .number ≡ 0 → b .cb - (fixedIn b + banc) ≡ natural (offeredOf q)
-  offered-is b p z =
-      let ok = accepted-budget q smr (sym (ap (λ (a : Allocation). a .number) e) ∙ z) in
-      ap (λ (b : FixedBitBudget). b .cb - (fixedIn b + banc)) p
-      ∙ ap (λ (n : ℕ). n - (fixedOf q + banc)) (cb-is q (budgetOf q .budget) ok)
-      ∙ sym (natural-minus (cbOf q) (fixedOf q + banc))
-
-  pub page-accepted : (b : FixedBitBudget) (offered demand : ℕ) → b ≡ budgetOf q .budget → offered ≡ b .cb - (fixedIn b + banc) → demand ≡ demandOf h smr .bits
+  pub page-accepted : (b : FixedBitBudget) (offered demand : ℕ) → b ≡ budgetOf q .budget → offered ≡ natural (offeredIn b banc) → demand ≡ demandOf h smr .bits
     → a .number ≡ 0 → pageOf h banc smr ≡ acceptedPage b offered demand (a .audio .«nb_steps») (a .left) smr
   page-accepted b offered demand p o d z =
       by
-      ∙ (λ i. pageBy (freeFormat h) smr (sym p i) (sym (o ∙ offered-is b p z) i) (sym d i) a)
+      ∙ (λ i. pageBy (freeFormat h) smr (sym p i) (sym (o ∙ ap (λ (b : FixedBitBudget). natural (offeredIn b banc)) p) i) (sym d i) a)
       ∙ opened-accepted (freeFormat h) smr b offered demand a z
 
   pub page-refused : (a .number ≡ 0 → ⊥) → pageOf h banc smr ≡ refusalLine (freeFormat h) (a .number) (a .cb) (a .fixed) (a .banc) ∷ []
   page-refused z = by ∙ opened-refused (freeFormat h) smr (budgetOf q .budget) (natural (offeredOf q)) (demandOf h smr .bits) a z
 
   -- a line of the page, from what the code has for its parts
-  pub line-accepted : (b : FixedBitBudget) (offered demand n : ℕ) (t : List ℕ) → b ≡ budgetOf q .budget → offered ≡ b .cb - (fixedIn b + banc)
+  pub line-accepted : (b : FixedBitBudget) (offered demand n : ℕ) (t : List ℕ) → b ≡ budgetOf q .budget → offered ≡ natural (offeredIn b banc)
     → demand ≡ demandOf h smr .bits → a .number ≡ 0 → t ≡ getD (acceptedPage b offered demand (a .audio .«nb_steps») (a .left) smr) n []
     → t ≡ getD (pageOf h banc smr) n []
   line-accepted b offered demand n t p o d z g = g ∙ ap (λ (p : List (List ℕ)). getD p n []) (sym (page-accepted b offered demand p o d z))

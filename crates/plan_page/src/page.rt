@@ -3,7 +3,7 @@ ghost use mathlib.Core.Path.{_≡_};
 ghost use mathlib.Core.List.{[]};
 ghost use Prim.Native.Nat.{_+_, _-_, _≤_};
 ghost use lib.ListN.{length, getD};
-ghost use Rattle.encoder_bit_budget.specs.Budget.{noBudget, fixedIn};
+ghost use Rattle.encoder_bit_budget.specs.Budget.{noBudget, offeredIn, natural};
 ghost use Rattle.text_line.specs.Line.{textOf};
 ghost use Rattle.plan_page.specs.Page.{headOf, footOf, acceptedPage, pageOf};
 ghost use Rattle.plan_page.specs.Held.{BudgetHeld};
@@ -92,7 +92,7 @@ fn foot_line(offered: u64, left: u64, n: usize) -> Line
     ensures { λ r. ⌜ textOf r ≡ getD (footOf offered left) n [] ⌝ }
 {
     if n == 1 {
-        plan_lines::charged_line(above(offered, left))
+        plan_lines::charged_line(text_line::above(offered, left))
     } else if n == 2 {
         plan_lines::left_line(left)
     } else {
@@ -129,14 +129,7 @@ fn no_budget() -> FixedBitBudget
 
 // The bits offered; 0 where the fixed and the ancillary bits are more than the frame's.
 fn offered_bits(b: FixedBitBudget, banc: u32) -> u64
-    ensures { λ r. ⌜ r ≡ b .cb - (fixedIn b + banc) ⌝ }
+    ensures { λ r. ⌜ r ≡ natural (offeredIn b banc) ⌝ }
 {
-    above(b.cb as u64, b.fixed() + (banc as u64))
-}
-
-// How much more `a` is than `b`, and 0 where it is not.
-fn above(a: u64, b: u64) -> u64
-    ensures { λ r. ⌜ r ≡ a - b ⌝ }
-{
-    if b < a { a - b } else { 0 }
+    text_line::above(b.cb as u64, b.fixed() + (banc as u64))
 }

@@ -75,7 +75,7 @@ impl Line {
     {
         let bytes = column.bytes;
         let length = least(column.length, 256);
-        let line = self.spaces(above(width, length));
+        let line = self.spaces(above(width as u64, length as u64) as usize);
         line.text(&bytes[..length])
     }
 
@@ -187,7 +187,7 @@ pub fn least(a: usize, b: usize) -> usize
 }
 
 // How much more `a` is than `b`, and 0 where it is not.
-fn above(a: usize, b: usize) -> usize
+pub fn above(a: u64, b: u64) -> u64
     ensures { λ r. ⌜ r ≡ a - b ⌝ }
 {
     if b < a { a - b } else { 0 }
