@@ -58,13 +58,13 @@ fn clamp(last: u32, half: u32, value: f64) -> u32
     if value < 0.0 {
         let below = nearest_whole(-value);
         if below < middle {
-            least(middle - below, last)
+            capped(middle - below, last)
         } else {
             0
         }
     } else {
         let above = nearest_whole(value);
-        least(middle + above, last)
+        capped(middle + above, last)
     }
 }
 
@@ -85,8 +85,8 @@ pub fn nearest_whole(x: f64) -> u64
     }
 }
 
-// The smaller of the two.
-fn least(code: u64, last: u32) -> u32
+// A code, or the last where it would be past that.
+fn capped(code: u64, last: u32) -> u32
     ensures { λ r. ⌜ r ≡ min code last ⌝ }
 {
     if code < last as u64 {

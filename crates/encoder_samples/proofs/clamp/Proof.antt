@@ -9,25 +9,25 @@ use Rattle.encoder_samples.proofs.clamp.Tie as tie
 nearest-whole-requires : tie.Need-nearest-whole-requires
 nearest-whole-requires c κs = search needs
 
-sub-least : tie.Need-sub-least
-sub-least c = search needs
+sub-capped : tie.Need-sub-capped
+sub-capped c = search needs
 
-least-requires : tie.Need-least-requires
-least-requires c κs = search needs
+capped-requires : tie.Need-capped-requires
+capped-requires c κs = search needs
 
 nearest-whole-requires-2 : tie.Need-nearest-whole-requires-2
 nearest-whole-requires-2 c κs = search needs
 
-add-least : tie.Need-add-least
-add-least c = search needs
+add-capped : tie.Need-add-capped
+add-capped c = search needs
 
-least-requires-2 : tie.Need-least-requires-2
-least-requires-2 c κs = search needs
+capped-requires-2 : tie.Need-capped-requires-2
+capped-requires-2 c κs = search needs
 
 returns : tie.Need-returns
 returns c =
     let b = c .before .before .before in
-    c .least .ensures
+    c .capped .ensures
     ∙ sym (below-middle _ _ _ _ (b .before .fits .half .fits) (b .if1 .taken) (c .before .before .nearest-whole .ensures .whole))
 
 returns-2 : tie.Need-returns-2
@@ -39,7 +39,7 @@ returns-2 c =
 returns-3 : tie.Need-returns-3
 returns-3 c =
     let b = c .before .before in
-    c .least2 .ensures
+    c .capped2 .ensures
     ∙ sym (above-middle _ _ _ _ (b .before .fits .last .fits) (b .if1 .left) (c .before .nearest-whole2 .ensures .whole))
 
 pub clamp-spec : {M : Type 1} → statement M
@@ -47,11 +47,11 @@ clamp-spec =
     tie.close
     (tie.spec
     nearest-whole-requires
-    sub-least
-    least-requires
+    sub-capped
+    capped-requires
     nearest-whole-requires-2
-    add-least
-    least-requires-2
+    add-capped
+    capped-requires-2
     returns
     returns-2
     returns-3)
