@@ -32,10 +32,11 @@ use Rattle.encoder_bit_budget.proofs.AvailableLaws.{natural-minus}
 use Rattle.allocation_rounds.specs.declared.Run.{Run}
 use Rattle.allocation_run.specs.Steps.{runOf, stepsOf}
 use Rattle.allocation_run.proofs.RunLaws.{same-run}
+use Rattle.allocation_worth.specs.Worth.{Worth}
+use Rattle.allocation_worth.proofs.WorthLaws.{worth}
 use Rattle.encoder_bit_allocator.specs.declared.Allocation.{Allocation}
-use Rattle.encoder_bit_allocator.specs.Allocation.{bitsAsked, allocationAsked, worstCase, withSteps, accepted, refused, short, layoutFor, allocationIn, allocationOf, Worth, AllocationIs}
+use Rattle.encoder_bit_allocator.specs.Allocation.{bitsAsked, allocationAsked, worstCase, withSteps, accepted, refused, short, layoutFor, allocationIn, allocationOf, AllocationIs}
 use Rattle.encoder_bit_allocator.specs.OnTheWay.{CostsAre, allocationUnder}
-use Rattle.encoder_bit_allocator.proofs.WorthLaws.{worth}
 
 -- ---- the ratios that are handed in are of the format
 

@@ -1,4 +1,2 @@
 pub mod CostLaws
-pub mod StandingLaws
-pub mod WorthLaws
 pub mod AnswerLaws

@@ -14,7 +14,7 @@ use Rattle.layout.specs.declared.AllocationField.{AllocationField}
 use Rattle.layout.specs.Layout.{channelCount}
 use Rattle.encoder_bit_demand.specs.Demand.{firstStep, FirstStepIs}
 use Rattle.allocation_run.specs.Entries.{charge, ChargeIs}
-use Rattle.encoder_bit_allocator.specs.Allocation.{fieldSteps}
+use Rattle.allocation_worth.specs.Worth.{fieldSteps}
 use Rattle.plan_text.specs.Quoted.{text}
 use Rattle.text_line.specs.Line.{cut, aligned}
 use Rattle.text_line.specs.Number.{numberText}

@@ -11,7 +11,7 @@ use Rattle.layout.specs.Slots.{slotOf}
 use Rattle.layout.specs.Layout.{channelCount, fieldsOf, sumOver}
 use Rattle.encoder_bit_demand.specs.Demand.{smrAt, firstStep}
 use Rattle.allocation_run.specs.Entries.{slotMnr, charge}
-use Rattle.encoder_bit_allocator.specs.Allocation.{fieldSteps}
+use Rattle.allocation_worth.specs.Worth.{fieldSteps}
 use Rattle.plan_text.specs.Quoted.{text}
 use Rattle.text_line.specs.Line.{aligned}
 use Rattle.text_line.specs.Number.{numberText}

@@ -16,7 +16,7 @@ use Rattle.layout.proofs.FieldLaws.{serves-first}
 use Rattle.allocation_rounds.specs.Rounds.{placeIn}
 use Rattle.allocation_run.specs.Steps.{stepsOf}
 use Rattle.allocation_run.proofs.HeldLaws.{slot-steps}
-use Rattle.encoder_bit_allocator.specs.Allocation.{fieldSteps, standing, orBottom, placesFrom}
+use Rattle.allocation_worth.specs.Worth.{fieldSteps, standing, orBottom, placesFrom}
 
 module _ (l : Layout) (places : List ℕ) (f : ℕ) (h : f < length (fieldsOf l)) where
   abbrev x : AllocationField

@@ -29,8 +29,8 @@ use Rattle.allocation_run.proofs.LaidLaws.{entries-count, entry-at}
 use Rattle.allocation_run.proofs.RuleLaws.{Numbers, counting, rising, up-to-top}
 use Rattle.allocation_run.proofs.RunLaws.{sound}
 use Rattle.allocation_run.proofs.HeldLaws.{at-slot, slot-steps}
-use Rattle.encoder_bit_allocator.specs.Allocation.{fieldSteps, placesFrom, NoNan, Worth}
-use Rattle.encoder_bit_allocator.proofs.StandingLaws.{field-steps, places-back}
+use Rattle.allocation_worth.specs.Worth.{fieldSteps, placesFrom, NoNan, Worth}
+use Rattle.allocation_worth.proofs.StandingLaws.{field-steps, places-back}
 
 -- ---- promises speak of the places only at each field
 

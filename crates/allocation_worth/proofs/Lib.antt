@@ -1,0 +1,2 @@
+pub mod StandingLaws
+pub mod WorthLaws
