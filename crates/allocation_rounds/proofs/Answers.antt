@@ -7,16 +7,15 @@ use Prim.Native.Nat.{ℕ, _+_, _≤_, _<_, min}
 use native.Mathlib.Numerals.{add-one}
 use native.Mathlib.Omega.{arith}
 use lib.Ieee.{Float}
-use lib.ListN.{length, getD, length-set}
+use lib.ListN.{length}
 use Rattle.allocation_rounds.specs.declared.Candidate.{Candidate}
 use Rattle.allocation_rounds.specs.declared.Candidate.the-variants.{Nobody, Field}
 use Rattle.allocation_rounds.specs.declared.Run.{Run}
 use Rattle.allocation_rounds.specs.Rounds.{Rules, price, placeIn, waits, consider, best, candidate, taken, round, ended, takenBy}
 use Rattle.allocation_rounds.specs.Lent.{lent}
 use Rattle.allocation_rounds.specs.Answers.{BestIs, Onward, Finished}
-use Rattle.allocation_rounds.proofs.Fields.{either}
-use Rattle.allocation_rounds.proofs.Scan.{PickedIn, picked-open, picked, open-below}
-use Rattle.allocation_rounds.proofs.Ending.{roomIn, raiseAt, raise-here, raise-else, taken-falls, taken-length, round-nobody, round-taken, round-keeps, ended-nobody, ended-taken, ended-repeated, ended-keeps}
+use Rattle.allocation_rounds.proofs.Scan.{picked, open-below}
+use Rattle.allocation_rounds.proofs.Ending.{roomIn, taken-falls, taken-length, round-nobody, round-taken, round-keeps, ended-nobody, ended-taken, ended-repeated, ended-keeps}
 
 -- ---- the scan
 

@@ -1,5 +1,5 @@
 -- What the code computes for one field and one place is what the definitions have there, and the tables that it lays out are the rules.
-use mathlib.Core.Path.{_≡_, refl, sym, ap, ap₂, _∙_, subst}
+use mathlib.Core.Path.{_≡_, sym, ap, ap₂, _∙_, subst}
 use mathlib.Core.Bool.{true, false}
 use mathlib.Core.List.{List, []}
 use Prim.Native.Nat.{ℕ, _+_, _-_, _*_, _≤_, _<_}
@@ -15,7 +15,7 @@ use Rattle.tables.proofs.Listed.{tabulated, length-tabulate}
 use Rattle.ieee_order.specs.Order.{minOf}
 use Rattle.bitalloc.specs.Tables.{rowOf}
 use Rattle.bitalloc.specs.Storage.{rowOf16}
-use Rattle.quantization.specs.Classes.{sampleBits, SampleBitsAre}
+use Rattle.quantization.specs.Classes.{SampleBitsAre}
 use Rattle.bitalloc.proofs.RowLaws.{row-number, places-small}
 use Rattle.layout.specs.declared.Layout.{Layout}
 use Rattle.layout.specs.declared.AllocationField.{AllocationField}

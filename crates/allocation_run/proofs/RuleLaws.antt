@@ -1,9 +1,9 @@
 -- The rules of any list of entries whose rows are a table's: their charges count up, and off NaN their ratios rise, so that the laws of the
 -- rounds hold of them.
-use mathlib.Core.Path.{_≡_, refl, sym, ap, _∙_, subst}
+use mathlib.Core.Path.{_≡_, refl, ap}
 use mathlib.Core.Bool.{Bool, true, false, cond}
 use mathlib.Core.List.{List, [], _∷_, map}
-use Prim.Native.Nat.{ℕ, zero, suc, _+_, _-_, _≤_, _<_}
+use Prim.Native.Nat.{ℕ, _+_, _-_, _≤_, _<_}
 use native.Mathlib.Nat.{not-suc-le-zero, le-of-lt}
 use native.Mathlib.Decide.{decLt}
 use native.Mathlib.Omega.{arith}
@@ -24,7 +24,7 @@ use Rattle.bitalloc.proofs.RowLaws.{row-rule, places-small}
 use Rattle.encoder_bit_demand.specs.Snr.{snr}
 use Rattle.encoder_bit_demand.proofs.RowSnr.{row-snr-rule, row-snr-le, row-bits-rise}
 use Rattle.allocation_rounds.specs.Promises.{Counting, Rising}
-use Rattle.allocation_run.specs.Entries.{Entry, slotMnr, least, mnrAt, chargeAt, entryIn, rulesOf}
+use Rattle.allocation_run.specs.Entries.{Entry, slotMnr, least, chargeAt, entryIn, rulesOf}
 
 -- ---- what is asked of a row: it starts with no steps, and steps, their bits and their signal-to-noise ratios rise along it
 

@@ -1,21 +1,20 @@
 -- The tables that the code lends to the rounds are the rules of the entries, so the rounds end where the definition says.
 use mathlib.Core.Path.{_≡_, sym, ap, _∙_, subst}
 use mathlib.Core.List.{List}
-use Prim.Native.Nat.{ℕ, _+_, _-_, _*_, min, _≤_, _<_}
+use Prim.Native.Nat.{ℕ, _-_, _*_, min, _≤_, _<_}
 use native.Mathlib.Omega.{arith}
-use lib.Ieee.{Float, nan}
+use lib.Ieee.{Float}
 use lib.ListN.{length, getD}
 use Rattle.tables.proofs.Listed.{tabulate-same}
-use Rattle.bitalloc.specs.Tables.{rowOf}
 use Rattle.layout.specs.declared.Layout.{Layout}
-use Rattle.layout.specs.Layout.{fieldsOf, fieldIn, FieldsAre}
+use Rattle.layout.specs.Layout.{fieldsOf, fieldIn}
 use Rattle.layout.proofs.FieldLaws.{few, carried}
 use Rattle.allocation_rounds.specs.declared.Run.{Run}
 use Rattle.allocation_rounds.specs.Rounds.{started, ended}
 use Rattle.allocation_rounds.specs.Lent.{lent}
 use Rattle.allocation_rounds.specs.Answers.{Onward}
 use Rattle.allocation_rounds.proofs.Agree.{Agree, same-end}
-use Rattle.allocation_run.specs.Entries.{Entry, mnrAt, chargeAt, entryIn, entryOf, entriesOf, rulesOf}
+use Rattle.allocation_run.specs.Entries.{Entry, entryIn, entryOf, entriesOf, rulesOf}
 use Rattle.allocation_run.specs.Steps.{runOf}
 use Rattle.allocation_run.specs.Laid.{LaidOut, TopsTo}
 use Rattle.allocation_run.proofs.LaidLaws.{entries-count, entry-at, room}

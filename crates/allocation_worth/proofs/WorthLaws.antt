@@ -2,7 +2,7 @@
 use mathlib.Core.Path.{_≡_, refl, sym, ap, ap₂, _∙_, subst}
 use mathlib.Core.Bool.{Bool, true, false, cond, _||_}
 use mathlib.Core.List.{List, [], _∷_, map}
-use Prim.Native.Nat.{ℕ, zero, suc, _+_, _-_, _*_, _≤_, _<_}
+use Prim.Native.Nat.{ℕ, zero, suc, _+_, _-_, _≤_, _<_}
 use native.Mathlib.Nat.{le-trans}
 use native.Mathlib.Omega.{arith}
 use lib.Dec.{T, eqb, lit<, lit≤}
@@ -13,7 +13,6 @@ use Rattle.tables.specs.Search.{oneOf}
 use Rattle.bitalloc.specs.Tables.{rowOf}
 use Rattle.layout.specs.declared.Layout.{Layout}
 use Rattle.layout.specs.declared.AllocationField.{AllocationField}
-use Rattle.layout.specs.Slots.{slotOf}
 use Rattle.layout.specs.Layout.{served, fieldsOf, fieldIn}
 use Rattle.layout.proofs.FieldLaws.{few}
 use Rattle.encoder_bit_demand.specs.Demand.{smrAt, smrsOf}
@@ -23,13 +22,13 @@ use Rattle.allocation_rounds.specs.Promises.{charged, Counting, Spent, Exchange
 use Rattle.allocation_rounds.proofs.Floats.{floats}
 use Rattle.allocation_rounds.proofs.OnTheWay.{OnTheWay, end-way, end-over, end-spent}
 use Rattle.allocation_rounds.proofs.Exchange.{end-exchanged}
-use Rattle.allocation_run.specs.Entries.{Entry, entryIn, entryOf, rulesOf, entriesOf}
+use Rattle.allocation_run.specs.Entries.{Entry, entryIn, rulesOf, entriesOf}
 use Rattle.allocation_run.specs.Steps.{stepsBy, stepsOf, runOf}
 use Rattle.allocation_run.proofs.LaidLaws.{entries-count, entry-at}
 use Rattle.allocation_run.proofs.RuleLaws.{Numbers, counting, rising, up-to-top}
 use Rattle.allocation_run.proofs.RunLaws.{sound}
 use Rattle.allocation_run.proofs.HeldLaws.{at-slot, slot-steps}
-use Rattle.allocation_worth.specs.Worth.{fieldSteps, placesFrom, NoNan, Worth}
+use Rattle.allocation_worth.specs.Worth.{placesFrom, NoNan, Worth}
 use Rattle.allocation_worth.proofs.StandingLaws.{field-steps, places-back}
 
 -- ---- promises speak of the places only at each field

@@ -1,7 +1,7 @@
 -- The bits of a frame before any is spent on samples: ISO/IEC 11172-3 C.1.5.2.7, cb, bhdr, bcrc and bbal.
 use Prim.Native.Nat.{ℕ, zero, suc, _+_, _*_, _≤_}
 use mathlib.Core.Path.{_≡_}
-use mathlib.Core.Bool.{Bool, true, false, cond}
+use mathlib.Core.Bool.{Bool, cond}
 use mathlib.Core.List.{List, [], _∷_}
 use mathlib.Core.Option.{Option, none, some}
 use lib.Dec.{leb, eqb}

@@ -8,7 +8,7 @@ use native.Mathlib.Nat.{le-refl}
 use borrow.Author.Count.{below-more}
 use native.Mathlib.Omega.{arith}
 use lib.ListN.{length, getD, take, drop, length-drop}
-use lib.Dec.{eqb, lit≤}
+use lib.Dec.{lit≤}
 use lib.Seq.{ext-getD, length-take-le, getD-take, getD-drop}
 use lib.Ieee.{Float, fin, le}
 use lib.IntN.{pos}

@@ -7,7 +7,7 @@ use Prim.Native.Nat.{ℕ, zero, suc, _+_, _-_, _*_, _≤_, _<_}
 use native.Mathlib.Nat.{le-of-suc-le-suc, not-suc-le-zero, eq-or-lt-of-le, le-trans, le-suc, lt-suc-self, zero-lt-suc}
 use native.Mathlib.Numerals.{add-one}
 use native.Mathlib.Omega.{arith}
-use lib.Dec.{T, lit≤, lit<}
+use lib.Dec.{T, lit<}
 use lib.IntN.{pos}
 use lib.Ieee.{Float, nan, fin, le, lt, isNan}
 use lib.ListN.{length, getD}

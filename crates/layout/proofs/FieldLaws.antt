@@ -1,16 +1,13 @@
 -- The laws of a layout's fields that callers go by: how many there are, that each is carried, and that each slot is served by one. Then what
 -- the functions answer.
-use mathlib.Core.Path.{_≡_, refl, sym, ap, _∙_, subst}
-use mathlib.Core.Bool.{Bool, true, false, cond}
-use mathlib.Core.List.{[], _∷_}
+use mathlib.Core.Path.{_≡_, sym, ap, _∙_, subst}
+use mathlib.Core.Bool.{Bool, true, false}
 use mathlib.Core.Logic.{inr}
-use mathlib.Core.Option.{none, some, Option·none-ne-some}
-use Prim.Native.Nat.{ℕ, _+_, _-_, _*_, _/_, _%_, min, _≤_, _<_}
-use native.Mathlib.Omega.{arith}
-use lib.Dec.{T, eqb, ltb, lit<}
+use mathlib.Core.Option.{some, Option·none-ne-some}
+use Prim.Native.Nat.{ℕ, _-_, _≤_, _<_}
+use lib.Dec.{T, eqb, lit<}
 use lib.ListN.{length, List·getD-eq-default}
-use borrow.Author.Tests.{eq-eqb, ne-eqb, lt-ltb, le-ltb}
-use Rattle.tables.specs.Search.{place, oneOf}
+use Rattle.tables.specs.Search.{oneOf}
 use Rattle.bitalloc.specs.declared.BitAllocTable.{BitAllocTable}
 use Rattle.bitalloc.specs.declared.BitAllocTable.the-variants.{B2a, B2b, B2c, B2d, B1Lsf}
 use Rattle.bitalloc.specs.declared.OptionU32.the-variants.{Some, None}
@@ -19,8 +16,8 @@ use Rattle.bitalloc.specs.Tables.{sblimitOf}
 use Rattle.bitalloc.proofs.RowLaws.{sblimit-small}
 use Rattle.layout.specs.declared.Layout.{Layout}
 use Rattle.layout.specs.declared.AllocationField.{AllocationField}
-use Rattle.layout.specs.Layout.{own, shared, served, limitOf, fieldsBelow, fieldsOf, fieldIn, serves, servedBy, FieldsAre, FieldIs, ServingIs}
-use Rattle.layout.proofs.NumberLaws.{numbered, count, serving, Numbered, fields-numbered, numbered-below, numbered-channel, count-small, Carried, Outside, by-number, by-none, served-back, first-served}
+use Rattle.layout.specs.Layout.{own, served, limitOf, fieldsOf, fieldIn, servedBy, FieldsAre, FieldIs, ServingIs}
+use Rattle.layout.proofs.NumberLaws.{numbered, count, serving, fields-numbered, numbered-below, numbered-channel, count-small, Carried, Outside, by-number, by-none, served-back, first-served}
 
 module _ (l : Layout) where
   abbrev one : Bool

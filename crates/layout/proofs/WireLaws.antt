@@ -1,5 +1,5 @@
 -- The slots of a layout by their number in the order of the bitstream.
-use mathlib.Core.Path.{_≡_, refl, sym, ap, ap₂, _∙_}
+use mathlib.Core.Path.{_≡_, refl, sym, ap, _∙_}
 use mathlib.Core.Bool.{Bool, true, false, cond}
 use mathlib.Core.List.{List, [], _∷_, _++_, append-assoc, map}
 use Prim.Native.Nat.{ℕ, zero, suc, _+_, _-_, _*_, _/_, _%_, _≤_, _<_}
@@ -11,7 +11,7 @@ use Rattle.tables.proofs.Listed.{at-append}
 use Rattle.layout.specs.declared.Layout.{Layout}
 use Rattle.layout.specs.declared.AllocationField.{AllocationField}
 use Rattle.layout.specs.Slots.{slotOf}
-use Rattle.layout.specs.Layout.{own, shared, served, limitOf, fieldsAt, fieldsBelow, fieldsOf, slotsIn, slotsOf, SlotsAre, SlotIs}
+use Rattle.layout.specs.Layout.{own, shared, served, limitOf, fieldsAt, fieldsBelow, slotsIn, slotsOf, SlotsAre, SlotIs}
 
 slots-append : (xs ys : List AllocationField) → slotsIn (xs ++ ys) ≡ slotsIn xs ++ slotsIn ys
 slots-append [] ys = refl

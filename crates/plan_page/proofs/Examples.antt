@@ -8,7 +8,7 @@ use Rattle.plan_text.specs.Quoted.{text}
 use Rattle.text_line.specs.Line.{aligned}
 use Rattle.text_line.specs.Number.{digitsOf}
 use Rattle.text_line.specs.Decibels.{hundredthsOf, decibelsText}
-use Rattle.plan_page.specs.Rows.{columnHeads, headingLine, slotColumns}
+use Rattle.plan_page.specs.Rows.{headingLine, slotColumns}
 
 heading : headingLine 2 ≡ text "subband |     ratio  steps      left |     ratio  steps      left |  bits"
 unfolding headingLine

@@ -1,6 +1,6 @@
 -- No line is longer than what a line holds.
 use mathlib.Core.Bool.{Bool, true, false, cond}
-use mathlib.Core.List.{List, _++_}
+use mathlib.Core.List.{List}
 use Prim.Native.Nat.{ℕ, zero, suc, _+_, _-_, _≤_}
 use native.Mathlib.Omega.{arith}
 use lib.Dec.{eqb}
@@ -9,7 +9,6 @@ use lib.ListN.{length, length-append}
 use Rattle.layout.specs.declared.Layout.{Layout}
 use Rattle.layout.specs.Layout.{channelCount}
 use Rattle.allocation_run.specs.Entries.{slotMnr}
-use Rattle.plan_text.specs.Quoted.{text}
 use Rattle.text_line.specs.Line.{aligned}
 use Rattle.text_line.specs.Number.{numberText}
 use Rattle.text_line.specs.Decibels.{decibelsText}

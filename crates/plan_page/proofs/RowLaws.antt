@@ -1,25 +1,23 @@
 -- Laws of the heading and of a row.
 use mathlib.Core.Path.{_≡_, sym, ap, ap₂, _∙_}
-use mathlib.Core.Bool.{Bool, true, false, cond}
 use mathlib.Core.List.{List, [], _++_, append-nil}
-use Prim.Native.Nat.{ℕ, suc, _+_, _≤_}
+use Prim.Native.Nat.{ℕ, _+_, _≤_}
 use native.Mathlib.Numerals.{add-one}
 use native.Mathlib.Omega.{arith}
-use lib.Dec.{eqb, lit≤}
+use lib.Dec.{lit≤}
 use lib.Ieee.{Float}
 use lib.ListN.{length}
 use borrow.Author.Tests.{eq-eqb, ne-eqb}
 use Rattle.layout.specs.declared.Layout.{Layout}
 use Rattle.layout.specs.declared.AllocationField.{AllocationField}
 use Rattle.layout.specs.Layout.{channelCount}
-use Rattle.encoder_bit_demand.specs.Demand.{firstStep, FirstStepIs}
+use Rattle.encoder_bit_demand.specs.Demand.{FirstStepIs}
 use Rattle.allocation_run.specs.Entries.{charge, ChargeIs}
 use Rattle.allocation_worth.specs.Worth.{fieldSteps}
-use Rattle.plan_text.specs.Quoted.{text}
 use Rattle.text_line.specs.Line.{cut, aligned}
 use Rattle.text_line.specs.Number.{numberText}
 use Rattle.text_line.proofs.LineLaws.{cut-whole, behind, more}
-use Rattle.plan_page.specs.Rows.{joined, headingLine, rowStart, channelColumns, subbandBits, subbandLine}
+use Rattle.plan_page.specs.Rows.{joined, rowStart, channelColumns, subbandBits, subbandLine}
 use Rattle.plan_page.specs.Charged.{BitsInAre}
 
 -- ---- the columns of one channel after the other

@@ -8,7 +8,6 @@ use lib.Ieee.{Float}
 use lib.ListN.{length}
 use borrow.Author.Tests.{le-leb, lt-leb, le-ltb}
 use Rattle.header.specs.declared.FrameHeader.{FrameHeader}
-use Rattle.header.specs.Header.{channelsOf}
 use Rattle.layout.specs.Slots.{smrRows}
 use Rattle.plan_words.specs.declared.Words.{Words}
 use Rattle.plan_words.specs.declared.WordsAnswer.{WordsAnswer}

@@ -2,9 +2,9 @@
 use mathlib.Core.Path.{_≡_, refl, sym, ap, _∙_, subst}
 use mathlib.Core.Bool.{Bool, true, false, not, cond, _&&_, _||_}
 use mathlib.Core.List.{List, [], _∷_}
-use mathlib.Core.Option.{Option, none, some, Option·none-ne-some, Option·some-injective}
+use mathlib.Core.Option.{Option, none, some, Option·none-ne-some}
 use Prim.Native.Nat.{ℕ, zero, suc, _+_, _-_, _*_, _/_, _^_, _≤_, _<_}
-use lib.Dec.{T, leb, eqb, leb→le, eqb→eq, lit<, lit≤}
+use lib.Dec.{T, leb, eqb, leb→le, eqb→eq, lit≤}
 use lib.ListN.{length, getD}
 use lib.Count.{leadingZeros, leading-unique}
 use lib.Ieee.{size}

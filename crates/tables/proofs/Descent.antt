@@ -3,7 +3,7 @@ use Prim.Native.Nat.{ℕ, _<_}
 use mathlib.Core.Bool.{Bool}
 use lib.Dec.{T}
 use lib.ListN.{length, getD}
-use lib.Ieee.{Float, nan, lt, ofBits}
+use lib.Ieee.{Float, nan, lt}
 use Rattle.tables.specs.Scalefactors.{scalefactors}
 use Rattle.tables.proofs.Rule.{ordered, ordered-at}
 

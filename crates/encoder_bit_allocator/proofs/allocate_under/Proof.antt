@@ -1,5 +1,4 @@
 -- `encoder_bit_allocator::allocate_under` meets its contract.
-use native.Mathlib.Omega.{arith}
 use Rattle.encoder_bit_allocator.proofs.AnswerLaws.{under-accepted, under-short}
 use borrow.Author.Needs.{needs}
 use Rattle.encoder_bit_allocator.proofs.allocate_under.Statement.{statement}

@@ -1,10 +1,8 @@
 -- `encoder_bit_allocator::worst_case` meets its contract. The loop's invariant: the costs so far.
-use Prim.Native.Nat.{ℕ, _-_, _≤_, _<_}
-use mathlib.Core.Path.{_≡_, refl, sym, ap, _∙_, subst}
+use Prim.Native.Nat.{_-_, _≤_, _<_}
 use native.Mathlib.Omega.{arith}
-use lib.ListN.{length, getD, length-set}
-use Rattle.layout.specs.Layout.{fieldsOf, fieldIn}
-use Rattle.encoder_bit_demand.specs.Demand.{firstStep}
+use lib.ListN.{length}
+use Rattle.layout.specs.Layout.{fieldsOf}
 use Rattle.encoder_bit_allocator.proofs.CostLaws.{Costed, none-costed, one-more-costed, all-costed}
 use borrow.Author.Needs.{needs}
 use Rattle.encoder_bit_allocator.proofs.worst_case.Statement.{statement}

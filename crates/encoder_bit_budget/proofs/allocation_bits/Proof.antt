@@ -1,7 +1,6 @@
 -- `encoder_bit_budget::allocation_bits` meets its contract. The loop's invariant: the sum over the fields so far.
 use Prim.Native.Nat.{_*_, _-_, _≤_, _<_}
 use mathlib.Core.Path.{_≡_}
-use native.Mathlib.Omega.{arith}
 use lib.ListN.{length, take}
 use Rattle.layout.specs.Layout.{fieldsOf, sumOver}
 use Rattle.layout.proofs.SumLaws.{added, summed}

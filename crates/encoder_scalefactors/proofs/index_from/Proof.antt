@@ -1,12 +1,9 @@
 -- `encoder_scalefactors::index_from` meets its contract. The loop's invariant: the largest magnitude so far.
-use Prim.Native.Nat.{ℕ, _+_, _-_, _≤_}
-use mathlib.Core.Path.{_≡_, refl, sym, ap, ap₂, _∙_}
-use native.Mathlib.Numerals.{add-one}
+use Prim.Native.Nat.{_-_, _≤_}
+use mathlib.Core.Path.{_≡_, refl, ap, _∙_}
 use native.Mathlib.Omega.{arith}
-use lib.Ieee.{Float, nan, ofBits}
-use lib.ListN.{getD}
+use lib.Ieee.{ofBits}
 use borrow.Author.Needs.{needs}
-use Rattle.ieee_order.specs.Order.{maxOf, absOf}
 use Rattle.encoder_scalefactors.specs.Indices.{largest}
 use Rattle.encoder_scalefactors.proofs.IndexLaws.{largest-more, index-is}
 use Rattle.encoder_scalefactors.proofs.index_from.Statement.{statement}

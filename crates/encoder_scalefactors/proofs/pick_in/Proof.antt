@@ -1,5 +1,5 @@
 -- `encoder_scalefactors::pick_in` meets its contract. The loop's invariant: `low` covers the magnitude or is the first, and nothing from `high` on covers it.
-use Prim.Native.Nat.{ℕ, _+_, _-_, _≤_, _<_}
+use Prim.Native.Nat.{ℕ, _-_, _≤_, _<_}
 use mathlib.Core.Path.{_≡_}
 use mathlib.Core.Bool.{true, false}
 use native.Mathlib.Omega.{arith}

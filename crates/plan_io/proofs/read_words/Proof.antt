@@ -1,7 +1,5 @@
 -- `plan_io::read_words` meets its contract. The loop's invariant: the words so far lie one behind the other, or the buffer is full.
-use mathlib.Core.Path.{_≡_}
 use Prim.Native.Nat.{_-_, _≤_}
-use lib.ListN.{length}
 use borrow.Author.Needs.{needs}
 use Rattle.plan_io.proofs.WordLaws.{ReadSoFar, none-yet, one-more, all-read}
 use Rattle.plan_io.proofs.read_words.Statement.{statement}

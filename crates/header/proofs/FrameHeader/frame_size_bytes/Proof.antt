@@ -2,7 +2,6 @@
 -- The quotient is at most its dividend, so the size fits and has its bound.
 use borrow.Author.Needs.{needs}
 use borrow.Author.Tests.{eq-eqb, ne-eqb}
-use mathlib.Core.Path.{refl}
 use Prim.Native.Nat.{_*_}
 use native.Mathlib.Nat.{div-le-self, add-zero}
 use native.Mathlib.Omega.{arith}

@@ -1,6 +1,4 @@
 -- `layout::Layout::field` meets its contract.
-use mathlib.Core.Path.{_∙_}
-use native.Mathlib.Omega.{arith}
 use borrow.Author.Tests.{eq-eqb, ne-eqb, lt-ltb, le-ltb}
 use Rattle.layout.proofs.FieldLaws.{field-is, no-field}
 use borrow.Author.Needs.{needs}

@@ -1,6 +1,6 @@
 -- `layout::Layout::field_serving` meets its contract.
 use native.Mathlib.Omega.{arith}
-use mathlib.Core.Logic.{inl, inr}
+use mathlib.Core.Logic.{inl}
 use borrow.Author.Tests.{eq-eqb, ne-eqb, lt-ltb, le-ltb}
 use Rattle.layout.proofs.NumberLaws.{Carried, Outside}
 use Rattle.layout.proofs.FieldLaws.{serving-is, none-serves, past-limit}

@@ -1,5 +1,4 @@
 -- `layout::Layout::of_header` meets its contract.
-use mathlib.Core.Path.{sym, ap, _∙_}
 use Rattle.layout.proofs.HeaderLaws.{laid-out}
 use borrow.Author.Needs.{needs}
 use Rattle.layout.proofs.Layout.of_header.Statement.{statement}

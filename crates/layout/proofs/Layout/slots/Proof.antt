@@ -1,5 +1,4 @@
 -- `layout::Layout::slots` meets its contract.
-use mathlib.Core.Path.{ap, _∙_}
 use native.Mathlib.Omega.{arith}
 use borrow.Author.Tests.{eq-eqb, ne-eqb}
 use Rattle.layout.proofs.WireLaws.{slots-are}

@@ -1,7 +1,7 @@
 -- `plan_page::rows::all_columns` meets its contract. The loop's invariant: the columns so far.
-use Prim.Native.Nat.{ℕ, _-_, _≤_}
+use Prim.Native.Nat.{_-_, _≤_}
 use mathlib.Core.Path.{_≡_}
-use mathlib.Core.List.{List, [], _++_}
+use mathlib.Core.List.{_++_}
 use Rattle.plan_text.specs.Quoted.{text}
 use Rattle.text_line.specs.Line.{textOf, cut}
 use Rattle.plan_page.specs.Rows.{joined, columnHeads}

@@ -1,7 +1,7 @@
 -- `plan_page::rows::channel_columns` meets its contract. The loop's invariant: the columns so far.
-use Prim.Native.Nat.{ℕ, _-_, _≤_}
+use Prim.Native.Nat.{_-_, _≤_}
 use mathlib.Core.Path.{_≡_}
-use mathlib.Core.List.{List, [], _++_}
+use mathlib.Core.List.{_++_}
 use Rattle.text_line.specs.Line.{textOf, cut}
 use Rattle.plan_page.specs.Rows.{joined, rowStart, channelColumns}
 use Rattle.plan_page.proofs.RowLaws.{no-columns, one-more, all-shown}

@@ -1,5 +1,5 @@
 -- `plan_page::rows::subband_bits` meets its contract. The loop's invariant: the sum over the fields so far.
-use Prim.Native.Nat.{ℕ, _*_, _-_, _≤_, _<_}
+use Prim.Native.Nat.{_*_, _-_, _≤_, _<_}
 use mathlib.Core.Path.{_≡_}
 use native.Mathlib.Omega.{arith}
 use lib.ListN.{length, take}
