@@ -1,4 +1,4 @@
-// Kinds of headers, allocation tables, classes of quantization and multipliers.
+// The replay of answers on headers, allocation tables, classes of quantization and multipliers.
 use bitalloc::BitAllocTable;
 use bitalloc::OptionTable;
 use bitalloc::OptionU32;
@@ -20,8 +20,34 @@ use replay_arguments::flag;
 use replay_arguments::header_of;
 use replay_arguments::u32_of;
 
+// Replays a line of `count` numbers, the first of which is the kind. The functions that it calls take the same two, and
+// their comments say what stands behind the kind: the arguments, an arrow, the expected answers. H is a header, as
+// `header_of` reads it; found is 1 with the value behind it, or 0 with 0.
+pub fn replay(count: usize, numbers: &[u64; 256]) -> Verdict {
+    let kind = numbers[0];
+    match kind {
+        1 => sblimit(count, numbers),
+        2 => nbal(count, numbers),
+        3 => nb_steps(count, numbers),
+        4 => allocation_index(count, numbers),
+        5 => mode_channels(count, numbers),
+        6 => bound(count, numbers),
+        7 => is_free_format(count, numbers),
+        8 => frame_size_bytes(count, numbers),
+        9 => bitrate_per_channel_kbps(count, numbers),
+        10 => select_table(count, numbers),
+        11 => class_of_quantization(count, numbers),
+        12 => is_grouped(count, numbers),
+        13 => bits_per_sample(count, numbers),
+        14 => sample_bits_for(count, numbers),
+        15 => scalefactors(count, numbers),
+        16 => channels(count, numbers),
+        _ => Verdict::Unread,
+    }
+}
+
 // Table -> sblimit.
-pub fn sblimit(count: usize, numbers: &[u64; 256]) -> Verdict {
+fn sblimit(count: usize, numbers: &[u64; 256]) -> Verdict {
     let OptionTable::Some(table) = BitAllocTable::numbered(numbers[1]) else {
         return Verdict::Unread;
     };
@@ -29,7 +55,7 @@ pub fn sblimit(count: usize, numbers: &[u64; 256]) -> Verdict {
 }
 
 // Table sb -> nbal.
-pub fn nbal(count: usize, numbers: &[u64; 256]) -> Verdict {
+fn nbal(count: usize, numbers: &[u64; 256]) -> Verdict {
     let OptionTable::Some(table) = BitAllocTable::numbered(numbers[1]) else {
         return Verdict::Unread;
     };
@@ -38,7 +64,7 @@ pub fn nbal(count: usize, numbers: &[u64; 256]) -> Verdict {
 }
 
 // Table sb index -> found steps.
-pub fn nb_steps(count: usize, numbers: &[u64; 256]) -> Verdict {
+fn nb_steps(count: usize, numbers: &[u64; 256]) -> Verdict {
     let OptionTable::Some(table) = BitAllocTable::numbered(numbers[1]) else {
         return Verdict::Unread;
     };
@@ -55,7 +81,7 @@ pub fn nb_steps(count: usize, numbers: &[u64; 256]) -> Verdict {
 }
 
 // Table sb steps -> found index.
-pub fn allocation_index(count: usize, numbers: &[u64; 256]) -> Verdict {
+fn allocation_index(count: usize, numbers: &[u64; 256]) -> Verdict {
     let OptionTable::Some(table) = BitAllocTable::numbered(numbers[1]) else {
         return Verdict::Unread;
     };
@@ -72,7 +98,7 @@ pub fn allocation_index(count: usize, numbers: &[u64; 256]) -> Verdict {
 }
 
 // Mode -> channels.
-pub fn mode_channels(count: usize, numbers: &[u64; 256]) -> Verdict {
+fn mode_channels(count: usize, numbers: &[u64; 256]) -> Verdict {
     let OptionMode::Some(mode) = Mode::of_code(numbers[1]) else {
         return Verdict::Unread;
     };
@@ -80,7 +106,7 @@ pub fn mode_channels(count: usize, numbers: &[u64; 256]) -> Verdict {
 }
 
 // Extension -> bound.
-pub fn bound(count: usize, numbers: &[u64; 256]) -> Verdict {
+fn bound(count: usize, numbers: &[u64; 256]) -> Verdict {
     let OptionExtension::Some(extension) = ModeExtension::of_code(numbers[1]) else {
         return Verdict::Unread;
     };
@@ -88,7 +114,7 @@ pub fn bound(count: usize, numbers: &[u64; 256]) -> Verdict {
 }
 
 // H -> 0 or 1.
-pub fn is_free_format(count: usize, numbers: &[u64; 256]) -> Verdict {
+fn is_free_format(count: usize, numbers: &[u64; 256]) -> Verdict {
     let OptionHeader::Some(header) = header_of(numbers) else {
         return Verdict::Unread;
     };
@@ -96,7 +122,7 @@ pub fn is_free_format(count: usize, numbers: &[u64; 256]) -> Verdict {
 }
 
 // H -> number bytes: the number is 0, or 2 where the sample rate is 0.
-pub fn frame_size_bytes(count: usize, numbers: &[u64; 256]) -> Verdict {
+fn frame_size_bytes(count: usize, numbers: &[u64; 256]) -> Verdict {
     let OptionHeader::Some(header) = header_of(numbers) else {
         return Verdict::Unread;
     };
@@ -108,24 +134,24 @@ pub fn frame_size_bytes(count: usize, numbers: &[u64; 256]) -> Verdict {
 }
 
 // H -> found kbps.
-pub fn bitrate_per_channel_kbps(count: usize, numbers: &[u64; 256]) -> Verdict {
+fn bitrate_per_channel_kbps(count: usize, numbers: &[u64; 256]) -> Verdict {
     let OptionHeader::Some(header) = header_of(numbers) else {
         return Verdict::Unread;
     };
     found_verdict(
         count == 10,
-        bitalloc::bitrate_per_channel_kbps(header),
+        table_selection::bitrate_per_channel_kbps(header),
         numbers[8],
         numbers[9],
     )
 }
 
 // H -> found table.
-pub fn select_table(count: usize, numbers: &[u64; 256]) -> Verdict {
+fn select_table(count: usize, numbers: &[u64; 256]) -> Verdict {
     let OptionHeader::Some(header) = header_of(numbers) else {
         return Verdict::Unread;
     };
-    let selected = bitalloc::select_table(header);
+    let selected = table_selection::select_table(header);
     match selected {
         OptionTable::Some(table) => pair_verdict(
             count == 10,
@@ -139,7 +165,7 @@ pub fn select_table(count: usize, numbers: &[u64; 256]) -> Verdict {
 }
 
 // Steps -> found C D grouping samples_per_codeword bits_per_codeword.
-pub fn class_of_quantization(count: usize, numbers: &[u64; 256]) -> Verdict {
+fn class_of_quantization(count: usize, numbers: &[u64; 256]) -> Verdict {
     let OptionU32::Some(steps) = u32_of(numbers[1]) else {
         return Verdict::Unread;
     };
@@ -162,7 +188,7 @@ fn class_numbers(found: OptionClass) -> [u64; 6] {
 }
 
 // Steps -> 0 or 1.
-pub fn is_grouped(count: usize, numbers: &[u64; 256]) -> Verdict {
+fn is_grouped(count: usize, numbers: &[u64; 256]) -> Verdict {
     let OptionU32::Some(steps) = u32_of(numbers[1]) else {
         return Verdict::Unread;
     };
@@ -170,7 +196,7 @@ pub fn is_grouped(count: usize, numbers: &[u64; 256]) -> Verdict {
 }
 
 // Steps -> bits, of a class with these steps; the other fields play no part.
-pub fn bits_per_sample(count: usize, numbers: &[u64; 256]) -> Verdict {
+fn bits_per_sample(count: usize, numbers: &[u64; 256]) -> Verdict {
     let OptionU32::Some(steps) = u32_of(numbers[1]) else {
         return Verdict::Unread;
     };
@@ -186,7 +212,7 @@ pub fn bits_per_sample(count: usize, numbers: &[u64; 256]) -> Verdict {
 }
 
 // Steps -> bits.
-pub fn sample_bits_for(count: usize, numbers: &[u64; 256]) -> Verdict {
+fn sample_bits_for(count: usize, numbers: &[u64; 256]) -> Verdict {
     let OptionU32::Some(steps) = u32_of(numbers[1]) else {
         return Verdict::Unread;
     };
@@ -197,7 +223,7 @@ pub fn sample_bits_for(count: usize, numbers: &[u64; 256]) -> Verdict {
 }
 
 // Index -> multiplier.
-pub fn scalefactors(count: usize, numbers: &[u64; 256]) -> Verdict {
+fn scalefactors(count: usize, numbers: &[u64; 256]) -> Verdict {
     let index = numbers[1] as usize;
     if index >= 63 {
         return Verdict::Unread;
@@ -207,7 +233,7 @@ pub fn scalefactors(count: usize, numbers: &[u64; 256]) -> Verdict {
 }
 
 // H -> channels.
-pub fn channels(count: usize, numbers: &[u64; 256]) -> Verdict {
+fn channels(count: usize, numbers: &[u64; 256]) -> Verdict {
     let OptionHeader::Some(header) = header_of(numbers) else {
         return Verdict::Unread;
     };

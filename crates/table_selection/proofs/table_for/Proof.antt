@@ -1,13 +1,13 @@
--- `bitalloc::table_for` meets its contract: at each key of an arm antt computes the headings' table, and off the keys no heading has the rate.
+-- `table_selection::table_for` meets its contract: at each key of an arm antt computes the headings' table, and off the keys no heading has the rate.
 use mathlib.Core.Path.{refl}
 use mathlib.Core.List.{_++_}
 use Rattle.tables.specs.Search.{oneOf}
 use Rattle.tables.proofs.Keys.{no-key, no-key-either}
 use Rattle.bitalloc.specs.declared.BitAllocTable.the-variants.{B2a, B2b, B2c, B2d}
-use Rattle.bitalloc.specs.Select.{headings, tableAt}
-use Rattle.bitalloc.proofs.SelectLaws.{low, middle, high, arm, covers, off-keys, off-three}
-use Rattle.bitalloc.proofs.table_for.Statement.{statement}
-use Rattle.bitalloc.proofs.table_for.Tie as tie
+use Rattle.table_selection.specs.Select.{headings, tableAt}
+use Rattle.table_selection.proofs.SelectLaws.{low, middle, high, arm, covers, off-keys, off-three}
+use Rattle.table_selection.proofs.table_for.Statement.{statement}
+use Rattle.table_selection.proofs.table_for.Tie as tie
 
 returns : tie.Need-returns
 unfolding tableAt oneOf

@@ -1,11 +1,11 @@
--- `bitalloc::select_table` meets its contract: each of the ways to a table is the definition's.
+-- `table_selection::select_table` meets its contract: each of the ways to a table is the definition's.
 use borrow.Author.Needs.{needs}
 use mathlib.Core.Path.{sym, ap, _∙_}
 use mathlib.Core.Option.{none}
 use Rattle.bitalloc.specs.Options.{numberIn}
-use Rattle.bitalloc.proofs.SelectLaws.{of-lsf, of-free, of-rate, no-kbps}
-use Rattle.bitalloc.proofs.select_table.Statement.{statement}
-use Rattle.bitalloc.proofs.select_table.Tie as tie
+use Rattle.table_selection.proofs.SelectLaws.{of-lsf, of-free, of-rate, no-kbps}
+use Rattle.table_selection.proofs.select_table.Statement.{statement}
+use Rattle.table_selection.proofs.select_table.Tie as tie
 
 returns : tie.Need-returns
 returns c = of-lsf _ (c .if1 .taken)

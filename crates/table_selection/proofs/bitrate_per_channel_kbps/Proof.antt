@@ -1,10 +1,10 @@
--- `bitalloc::bitrate_per_channel_kbps` meets its contract: each return rewrites the definition with the tests that led to it.
+-- `table_selection::bitrate_per_channel_kbps` meets its contract: each return rewrites the definition with the tests that led to it.
 use borrow.Author.Needs.{needs}
 use mathlib.Core.Path.{sym, _∙_}
 use borrow.Author.Tests.{eq-eqb, ne-eqb}
-use Rattle.bitalloc.specs.Select.{kbpsPerChannel}
-use Rattle.bitalloc.proofs.bitrate_per_channel_kbps.Statement.{statement}
-use Rattle.bitalloc.proofs.bitrate_per_channel_kbps.Tie as tie
+use Rattle.table_selection.specs.Select.{kbpsPerChannel}
+use Rattle.table_selection.proofs.bitrate_per_channel_kbps.Statement.{statement}
+use Rattle.table_selection.proofs.bitrate_per_channel_kbps.Tie as tie
 
 channels-requires : tie.Need-channels-requires
 channels-requires c κs = search needs

@@ -1,10 +1,10 @@
--- `bitalloc::free_format_table` meets its contract: antt computes the headings' table at the three frequencies, and there is none elsewhere.
+-- `table_selection::free_format_table` meets its contract: antt computes the headings' table at the three frequencies, and there is none elsewhere.
 use mathlib.Core.Path.{refl}
 use mathlib.Core.Logic.{⊎-elim, inl, inr}
-use Rattle.bitalloc.specs.Select.{tableAt}
-use Rattle.bitalloc.proofs.SelectLaws.{off-three}
-use Rattle.bitalloc.proofs.free_format_table.Statement.{statement}
-use Rattle.bitalloc.proofs.free_format_table.Tie as tie
+use Rattle.table_selection.specs.Select.{tableAt}
+use Rattle.table_selection.proofs.SelectLaws.{off-three}
+use Rattle.table_selection.proofs.free_format_table.Statement.{statement}
+use Rattle.table_selection.proofs.free_format_table.Tie as tie
 
 returns : tie.Need-returns
 unfolding tableAt

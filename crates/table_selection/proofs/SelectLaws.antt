@@ -14,9 +14,9 @@ use Rattle.tables.proofs.Search.{none-passes}
 use Rattle.tables.proofs.Keys.{Each, at-key, no-key, no-key-either}
 use Rattle.header.specs.declared.FrameHeader.{FrameHeader}
 use Rattle.header.specs.Header.{freeFormat}
 use Rattle.bitalloc.specs.declared.BitAllocTable.{BitAllocTable}
 use Rattle.bitalloc.specs.declared.BitAllocTable.the-variants.{B1Lsf}
-use Rattle.bitalloc.specs.Select.{Heading, Rate, free, kbps, headings, has, kbpsPerChannel, tableAt, tableOf}
+use Rattle.table_selection.specs.Select.{Heading, Rate, free, kbps, headings, has, kbpsPerChannel, tableAt, tableOf}
 
 -- the bit rates that the code tells apart
 abbrev pub low : List ℕ
