@@ -2,4 +2,3 @@ pub mod Options
 pub mod Tables
 pub mod Storage
 pub mod Changes
-pub mod Select

@@ -13,7 +13,7 @@ use Rattle.header.specs.Header.{frameSize}
 use Rattle.bitalloc.specs.declared.BitAllocTable.{BitAllocTable}
 use Rattle.quantization.specs.declared.QuantClass.{QuantClass}
 use Rattle.bitalloc.specs.Options.{isSome}
-use Rattle.bitalloc.specs.Select.{tableOf}
+use Rattle.table_selection.specs.Select.{tableOf}
 use Rattle.bitalloc.specs.Tables.{tableNumber, sblimitOf, nbalOf, stepsAt, indexOf}
 use Rattle.quantization.specs.Classes.{classOf, bitsPerSample}
 use Rattle.tables.specs.Listed.{tabulate}

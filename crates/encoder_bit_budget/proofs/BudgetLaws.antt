@@ -20,7 +20,7 @@ use Rattle.bitalloc.specs.declared.BitAllocTable.the-variants.{B2a, B2b, B2c, B
 use Rattle.bitalloc.specs.Options.{isSome}
 use Rattle.tables.specs.Sum.{sumBelow}
 use Rattle.bitalloc.specs.Tables.{nbalOf, sblimitOf}
-use Rattle.bitalloc.specs.Select.{tableOf}
+use Rattle.table_selection.specs.Select.{tableOf}
 use Rattle.bitalloc.proofs.RowLaws.{sblimit-small}
 use Rattle.layout.specs.declared.Layout.{Layout}
 use Rattle.layout.specs.Layout.{fieldsAt, fieldsBelow, fieldsOf, limitOf, layoutOf, sumOver}

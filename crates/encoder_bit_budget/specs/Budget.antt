@@ -14,7 +14,7 @@ use Rattle.bitalloc.specs.declared.BitAllocTable.{BitAllocTable}
 use Rattle.bitalloc.specs.declared.BitAllocTable.the-variants.{B2a}
 use Rattle.bitalloc.specs.Options.{isSome}
 use Rattle.bitalloc.specs.Tables.{nbalOf}
-use Rattle.bitalloc.specs.Select.{tableOf}
+use Rattle.table_selection.specs.Select.{tableOf}
 use Rattle.layout.specs.declared.Layout.{Layout}
 use Rattle.layout.specs.Layout.{layoutOf, limitOf, fieldsOf, sumOver}
 use Rattle.encoder_bit_budget.specs.declared.Request.{Request}

@@ -2,7 +2,7 @@
 // ISO/IEC 11172-3 C.1.5.2.7.
 ghost use mathlib.Core.Path.{_≡_};
 ghost use mathlib.Core.Option.{some};
-ghost use Rattle.bitalloc.specs.Select.{tableOf};
+ghost use Rattle.table_selection.specs.Select.{tableOf};
 ghost use Rattle.encoder_bit_budget.specs.Budget.{errorNumber, plain, crcBits, allocationBits, fixedIn, layoutIn, budgetWith, budgetIn, availableIn, availableBy, availableOf, BudgetIs};
 use bitalloc::{BitAllocTable, OptionTable};
 use header::{FrameHeader, FrameSize};
@@ -108,7 +108,7 @@ impl Request {
         ensures { λ r. ⌜ BudgetIs self r ⌝ }
     {
         let header = self.header;
-        let selected = bitalloc::select_table(header);
+        let selected = table_selection::select_table(header);
         match selected {
             OptionTable::Some(table) => budget_under(header, table),
             OptionTable::None => Budget::Refused(BitAllocError::NoBitallocTable),

@@ -40,7 +40,7 @@ pub extern "C" fn folgrist_select_table(
     match given {
         HeaderGiven::Refused(number) => number,
         HeaderGiven::Meant(header) => {
-            let selected = bitalloc::select_table(header);
+            let selected = table_selection::select_table(header);
             out[0] = parts::selected_table(selected);
             parts::selected_number(selected)
         }

@@ -14,7 +14,7 @@ use Rattle.header.specs.declared.ModeExtension.the-variants.{Bound4}
 use Rattle.header.specs.Header.{frameSize}
 use Rattle.bitalloc.specs.declared.BitAllocTable.{BitAllocTable}
 use Rattle.bitalloc.specs.declared.BitAllocTable.the-variants.{B2a, B2b, B2c}
-use Rattle.bitalloc.specs.Select.{tableOf}
+use Rattle.table_selection.specs.Select.{tableOf}
 use Rattle.encoder_scalefactors.specs.Indices.{pickOf}
 use Rattle.encoder_scfsi.specs.Select.{selection}
 use Rattle.encoder_bit_budget.specs.Budget.{plain, BudgetAnswer, budgetOf, fixedIn}

@@ -48,7 +48,7 @@ fn answers(header: FrameHeader) -> [u64; 5] {
     let available = encoder_bit_budget::available_data_bits(header, 0);
     [
         budget.refusal() as u64,
-        table_number(bitalloc::select_table(header)),
+        table_number(table_selection::select_table(header)),
         bytes(header),
         fixed_bits(budget),
         not_below_zero(available.bits()),

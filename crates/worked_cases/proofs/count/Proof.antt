@@ -12,7 +12,7 @@ use Rattle.tables.specs.Scalefactors.{scalefactors}
 use Rattle.tables.specs.Search.{oneOf}
 use Rattle.bitalloc.specs.Tables.{nbalOf, rowOf}
 use Rattle.quantization.specs.Classes.{sampleBits}
-use Rattle.bitalloc.specs.Select.{tableOf}
+use Rattle.table_selection.specs.Select.{tableOf}
 use Rattle.layout.specs.declared.Layout.{Layout}
 use Rattle.layout.specs.Layout.{layoutOf, fieldsOf}
 use Rattle.audio_data.specs.Record.{filler}
