@@ -14,7 +14,7 @@ use lib.Dec.{T, leb, ltb, eqb, ltb→lt, leb→le, eqb→eq, lit<, lit≤}
 use lib.ListN.{length, getD, replicate}
 use Rattle.tables.proofs.Listed.{tabulated}
 use Rattle.bitalloc.specs.Storage.{rowOf16}
-use Rattle.bitalloc.specs.Changes.{storedAB, storedCD, storedLsf, widthBy, WidthIs}
+use Rattle.table_rows.specs.Changes.{storedAB, storedCD, storedLsf, widthBy, WidthIs}
 use Rattle.tables.specs.Search.{entryAt}
 use Rattle.tables.specs.Sum.{sumBelow}
 use Rattle.tables.proofs.Rule.{first, second, allBelow, below, all, all-at, ordered, ordered-at}

@@ -1,4 +1,3 @@
 pub mod Options
 pub mod Tables
 pub mod Storage
-pub mod Changes

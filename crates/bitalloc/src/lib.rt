@@ -2,10 +2,7 @@
 ghost use mathlib.Core.Path.{_≡_};
 ghost use Rattle.bitalloc.specs.Tables.{tableNumbered, tableNumber, SblimitIs, PlacesAre, NbalIs, StepsAre, AllocationIndexIs};
 ghost use Rattle.bitalloc.specs.Storage.{rowOf16};
-ghost use Rattle.bitalloc.specs.Changes.{WidthIs};
 ghost use Rattle.bitalloc.specs.Options.{tableIn};
-
-mod rows;
 
 // A subband's index is below this.
 pub const NUM_SUBBANDS: usize = 32;
@@ -77,11 +74,11 @@ impl BitAllocTable {
         ensures { λ r. ⌜ NbalIs self sb r ⌝ }
     {
         match self {
-            BitAllocTable::B2a => nbal_by_range(sb, 11, 23, 27),
-            BitAllocTable::B2b => nbal_by_range(sb, 11, 23, 30),
-            BitAllocTable::B2c => nbal_by_range(sb, 2, 8, 8),
-            BitAllocTable::B2d => nbal_by_range(sb, 2, 12, 12),
-            BitAllocTable::B1Lsf => nbal_by_range(sb, 4, 11, 30),
+            BitAllocTable::B2a => table_rows::nbal_by_range(sb, 11, 23, 27),
+            BitAllocTable::B2b => table_rows::nbal_by_range(sb, 11, 23, 30),
+            BitAllocTable::B2c => table_rows::nbal_by_range(sb, 2, 8, 8),
+            BitAllocTable::B2d => table_rows::nbal_by_range(sb, 2, 12, 12),
+            BitAllocTable::B1Lsf => table_rows::nbal_by_range(sb, 4, 11, 30),
         }
     }
 
@@ -120,11 +117,11 @@ impl BitAllocTable {
         ensures { λ r. ⌜ r ≡ rowOf16 self sb ⌝ }
     {
         match self {
-            BitAllocTable::B2a => rows::a_or_b(sb, 27),
-            BitAllocTable::B2b => rows::a_or_b(sb, 30),
-            BitAllocTable::B2c => rows::c_or_d(sb, 8),
-            BitAllocTable::B2d => rows::c_or_d(sb, 12),
-            BitAllocTable::B1Lsf => rows::lsf(sb, 30),
+            BitAllocTable::B2a => table_rows::a_or_b(sb, 27),
+            BitAllocTable::B2b => table_rows::a_or_b(sb, 30),
+            BitAllocTable::B2c => table_rows::c_or_d(sb, 8),
+            BitAllocTable::B2d => table_rows::c_or_d(sb, 12),
+            BitAllocTable::B1Lsf => table_rows::lsf(sb, 30),
         }
     }
 
@@ -134,20 +131,5 @@ impl BitAllocTable {
     {
         let nbal = self.nbal(sb);
         if nbal == 0 { 0 } else { 1 << nbal }
-    }
-}
-
-// 4 bits in the subbands below `four`, from there 3 below `three`, from there 2 below `two`, and 0 from there on.
-fn nbal_by_range(sb: usize, four: usize, three: usize, two: usize) -> u32
-    ensures { λ r. ⌜ WidthIs sb four three two r ⌝ }
-{
-    if sb < four {
-        4
-    } else if sb < three {
-        3
-    } else if sb < two {
-        2
-    } else {
-        0
     }
 }

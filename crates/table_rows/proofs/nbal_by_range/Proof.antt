@@ -1,8 +1,8 @@
--- `bitalloc::nbal_by_range` meets its contract: each return rewrites with the tests that led to it.
+-- `table_rows::nbal_by_range` meets its contract: each return rewrites with the tests that led to it.
 use borrow.Author.Needs.{needs}
 use borrow.Author.Tests.{lt-ltb, le-ltb}
-use Rattle.bitalloc.proofs.nbal_by_range.Statement.{statement}
-use Rattle.bitalloc.proofs.nbal_by_range.Tie as tie
+use Rattle.table_rows.proofs.nbal_by_range.Statement.{statement}
+use Rattle.table_rows.proofs.nbal_by_range.Tie as tie
 
 returns : tie.Need-returns
 returns c = record { whole = simp (lt-ltb _ _ (c .if1 .taken)); small = search needs }

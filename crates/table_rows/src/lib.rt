@@ -1,7 +1,8 @@
-// The rows of the five tables: sixteen numbers each, the steps at the places of a subband's row and zeros behind them. A row serves the
-// subbands for which its tables print it; `row` alone reads them.
+// The rows of the five allocation tables and the widths of their fields, by the subbands at which they change. A row is sixteen numbers: the
+// steps at the places of a subband's row and zeros behind them. Only `bitalloc` calls these functions: it says at which subbands, and
+// proves that the rows and the widths are those of the printed tables.
 ghost use mathlib.Core.Path.{_≡_};
-ghost use Rattle.bitalloc.specs.Changes.{storedAB, storedCD, storedLsf};
+ghost use Rattle.table_rows.specs.Changes.{storedAB, storedCD, storedLsf, WidthIs};
 
 // Tables 3-B.2a and 3-B.2b, subbands 0 to 2
 const AB_FROM_0: [u32; 16] = [0, 3, 7, 15, 31, 63, 127, 255, 511, 1023, 2047, 4095, 8191, 16383, 32767, 65535];
@@ -75,5 +76,20 @@ pub fn lsf(sb: usize, end: usize) -> [u32; 16]
         LSF_FROM_11
     } else {
         NO_ROW
+    }
+}
+
+// 4 bits in the subbands below `four`, from there 3 below `three`, from there 2 below `two`, and 0 from there on.
+pub fn nbal_by_range(sb: usize, four: usize, three: usize, two: usize) -> u32
+    ensures { λ r. ⌜ WidthIs sb four three two r ⌝ }
+{
+    if sb < four {
+        4
+    } else if sb < three {
+        3
+    } else if sb < two {
+        2
+    } else {
+        0
     }
 }

@@ -1,20 +1,15 @@
--- `bitalloc::rows::c_or_d` meets its contract: each constant is the row that the printed table has from there on.
+-- `table_rows::c_or_d` meets its contract: each return rewrites with the tests that led to it.
 use borrow.Author.Tests.{lt-ltb, le-ltb}
-use Rattle.bitalloc.specs.Storage.{rowOf16}
-use Rattle.bitalloc.specs.Tables.{ranges}
-use Rattle.bitalloc.proofs.rows.c_or_d.Statement.{statement}
-use Rattle.bitalloc.proofs.rows.c_or_d.Tie as tie
+use Rattle.table_rows.proofs.c_or_d.Statement.{statement}
+use Rattle.table_rows.proofs.c_or_d.Tie as tie
 
 returns : tie.Need-returns
-unfolding rowOf16 ranges
 returns c = rw (lt-ltb _ _ (c .if1 .taken))
 
 returns-2 : tie.Need-returns-2
-unfolding rowOf16 ranges
 returns-2 c = rw (le-ltb _ _ (c .before .if1 .left), lt-ltb _ _ (c .if2 .taken))
 
 returns-3 : tie.Need-returns-3
-unfolding rowOf16 ranges
 returns-3 c = rw (le-ltb _ _ (c .before .if1 .left), le-ltb _ _ (c .if2 .left))
 
 pub c-or-d-spec : {M : Type 1} → statement M
