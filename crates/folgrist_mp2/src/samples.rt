@@ -5,8 +5,8 @@ ghost use lib.Dec.{ltb};
 ghost use lib.ListN.{length};
 ghost use Rattle.c_answers.specs.Answers.{asked, answered, Answers};
 ghost use Rattle.c_answers.specs.Replies.{sampleCoded, tripletCoded};
-use crate::writing;
 use c_answers::parts;
+use c_subband::samples;
 
 // The code of a sample in the class of a number of steps.
 #[no_mangle]
@@ -34,12 +34,5 @@ pub extern "C" fn folgrist_write_triplet(steps: u32, a: f64, b: f64, c: f64, out
           (tripletCoded (a ∷ b ∷ c ∷ [])))
         (now (out .entry)) r (now (out .exit)) ⌝ }
 {
-    if out.len() < 5 {
-        return 98;
-    }
-    let answer = encoder_samples::write_triplet_for(steps, [a, b, c]);
-    let triplet = answer.triplet;
-    let values = parts::triplet_values(triplet);
-    writing::put(&values, out);
-    answer.number
+    samples::write_triplet(steps, a, b, c, out)
 }

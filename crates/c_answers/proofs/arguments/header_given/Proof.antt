@@ -6,9 +6,6 @@ use Rattle.c_answers.proofs.ArgumentLaws.{no-mode, no-extension, flagge
 use Rattle.c_answers.proofs.arguments.header_given.Statement.{statement}
 use Rattle.c_answers.proofs.arguments.header_given.Tie as tie
 
-returns : tie.Need-returns
-returns c = search needs
-
 of-code-requires : tie.Need-of-code-requires
 of-code-requires c κs = search needs
 
@@ -18,10 +15,10 @@ enum-known-mode c = search needs
 enum-told : tie.Need-enum-told
 enum-told c = search needs
 
-returns-2 : tie.Need-returns-2
-returns-2 c =
+returns : tie.Need-returns
+returns c =
     let k = c .before .before in
-    no-mode _ _ _ _ _ _ _ _ (k .before .if1 .left) (sym (k .of-code .ensures) ∙ ap modeIn (c .enum-told .given .1))
+    no-mode _ _ _ _ _ _ _ (sym (k .of-code .ensures) ∙ ap modeIn (c .enum-told .given .1))
 
 of-code-requires-2 : tie.Need-of-code-requires-2
 of-code-requires-2 c κs = search needs
@@ -32,13 +29,22 @@ enum-known-mode-extension c = search needs
 enum-told-2 : tie.Need-enum-told-2
 enum-told-2 c = search needs
 
-returns-3 : tie.Need-returns-3
-returns-3 c =
+returns-2 : tie.Need-returns-2
+returns-2 c =
     let j = c .before .before in
     let m = j .before .before in
     let k = m .before .before in
-    no-extension _ _ _ _ _ _ _ _ (k .before .if1 .left) _ (sym (k .of-code .ensures) ∙ ap modeIn (m .mode .given .1))
+    no-extension _ _ _ _ _ _ _ _ (sym (k .of-code .ensures) ∙ ap modeIn (m .mode .given .1))
     (sym (j .of-code2 .ensures) ∙ ap extensionIn (c .enum-told2 .given .1))
+
+returns-3 : tie.Need-returns-3
+returns-3 c =
+    let e = c .before .before in
+    let j = e .before .before in
+    let m = j .before .before in
+    let k = m .before .before in
+    flagged _ _ _ _ _ _ _ _ (sym (k .of-code .ensures) ∙ ap modeIn (m .mode .given .1))
+    _ (sym (j .of-code2 .ensures) ∙ ap extensionIn (e .mode-extension .given .1)) (c .if1 .taken)
 
 returns-4 : tie.Need-returns-4
 returns-4 c =
@@ -46,30 +52,20 @@ returns-4 c =
     let j = e .before .before in
     let m = j .before .before in
     let k = m .before .before in
-    flagged _ _ _ _ _ _ _ _ (k .before .if1 .left) _ (sym (k .of-code .ensures) ∙ ap modeIn (m .mode .given .1))
-    _ (sym (j .of-code2 .ensures) ∙ ap extensionIn (e .mode-extension .given .1)) (c .if2 .taken)
-
-returns-5 : tie.Need-returns-5
-returns-5 c =
-    let e = c .before .before in
-    let j = e .before .before in
-    let m = j .before .before in
-    let k = m .before .before in
-    no-flag _ _ _ _ _ _ _ _ (k .before .if1 .left) _ (sym (k .of-code .ensures) ∙ ap modeIn (m .mode .given .1))
-    _ (sym (j .of-code2 .ensures) ∙ ap extensionIn (e .mode-extension .given .1)) (c .if2 .left)
+    no-flag _ _ _ _ _ _ _ _ (sym (k .of-code .ensures) ∙ ap modeIn (m .mode .given .1))
+    _ (sym (j .of-code2 .ensures) ∙ ap extensionIn (e .mode-extension .given .1)) (c .if1 .left)
 
 pub header-given-spec : {M : Type 1} → statement M
 header-given-spec =
     tie.close
     (tie.spec
-    returns
     of-code-requires
     enum-known-mode
     enum-told
-    returns-2
+    returns
     of-code-requires-2
     enum-known-mode-extension
     enum-told-2
+    returns-2
     returns-3
-    returns-4
-    returns-5)
+    returns-4)
