@@ -10,6 +10,7 @@ use Rattle.header.specs.Header.{modeOfCode, extensionOfCode}
 use Rattle.bitalloc.specs.declared.BitAllocTable.{BitAllocTable}
 use Rattle.bitalloc.specs.Tables.{tableNumbered}
 use Rattle.c_answers.specs.Answers.{Meaning, asked}
+use Rattle.c_answers.specs.declared.arguments.HeaderNumbers.{HeaderNumbers}
 use Rattle.c_answers.specs.declared.arguments.HeaderGiven.{HeaderGiven}
 use Rattle.c_answers.specs.declared.arguments.HeaderGiven.the-variants.{Meant, Nothing}
 
@@ -39,6 +40,11 @@ headerIn lsf bit-rate sample-rate padding protection mode extension =
     })
     (modeOfCode mode) (extensionOfCode extension))
     none
+
+-- the same of the code's seven numbers
+abbrev pub headerNumbered : HeaderNumbers → Option FrameHeader
+headerNumbered n =
+    headerIn (n .lsf) (n .«bit_rate») (n .«sample_rate») (n .padding) (n .«protection_bit») (n .mode) (n .«mode_extension»)
 
 -- what a function with a header asks first: whether a slice is short, then what the seven arguments mean
 abbrev pub headerMeant : Bool → ℕ → ℕ → ℕ → ℕ → ℕ → ℕ → ℕ → Meaning FrameHeader

@@ -1,16 +1,41 @@
 // From the seven numbers by which C hands over a header to the header.
 ghost use mathlib.Core.Path.{_≡_};
-ghost use Rattle.c_answers.specs.Arguments.{headerIn, headerFrom};
+ghost use Rattle.c_answers.specs.Arguments.{headerIn, headerNumbered, headerFrom};
 use header::{FrameHeader, Mode, ModeExtension, OptionExtension, OptionMode};
 
-// The header that the arguments mean, or nothing.
+// The seven numbers of a call, in the order of the C header.
+pub struct HeaderNumbers {
+    pub lsf: u8,
+    pub bit_rate: u32,
+    pub sample_rate: u32,
+    pub padding: u8,
+    pub protection_bit: u8,
+    pub mode: u8,
+    pub mode_extension: u8,
+}
+
+// The header that the numbers mean, or nothing.
 pub enum HeaderGiven {
     Meant(FrameHeader),
     Nothing,
 }
 
-// The header of a call; nothing where an argument means nothing.
-pub fn header_given(
+// The header of a call; nothing where one of the numbers means nothing.
+pub fn header_given(given: HeaderNumbers) -> HeaderGiven
+    ensures { λ r. ⌜ headerFrom r ≡ headerNumbered given ⌝ }
+{
+    header_of(
+        given.lsf,
+        given.bit_rate,
+        given.sample_rate,
+        given.padding,
+        given.protection_bit,
+        given.mode,
+        given.mode_extension,
+    )
+}
+
+fn header_of(
     lsf: u8,
     bit_rate: u32,
     sample_rate: u32,

@@ -1,48 +1,48 @@
-// What a table says of a subband, and the class of quantization of a number of steps.
+// What a table says of a subband, and the class of quantization and the signal-to-noise ratio of a number of steps.
 ghost use mathlib.Core.Bool.{_||_};
 ghost use mathlib.Core.Option.{some};
 ghost use lib.Dec.{ltb};
 ghost use lib.ListN.{length};
-ghost use Rattle.bitalloc.specs.Options.{tableIn};
 ghost use Rattle.c_answers.specs.Answers.{asked, answered, Answers};
-ghost use Rattle.c_answers.specs.Replies.{limitsAt, stepsFound, indexFound, coefficients, classFigures};
-use bitalloc::{OptionTable, OptionU32};
+ghost use Rattle.c_answers.specs.Arguments.{tableMeant};
+ghost use Rattle.c_answers.specs.Replies.{limitsAt, stepsFound, indexFound, coefficients, classFigures, snrFound};
+use bitalloc::{BitAllocTable, OptionTable, OptionU32};
 use c_answers::{parts, writing};
 
 // How many subbands a table carries, and the bits of a subband's allocation field.
-pub fn table_limits(given: OptionTable, sb: u64, out: &mut [u32]) -> u32
+pub fn table_limits(table: u8, sb: u64, out: &mut [u32]) -> u32
     ensures { λ r. ⌜ Answers
         (answered
-          (asked (ltb (length (now (out .entry))) 2) (tableIn given))
+          (tableMeant (ltb (length (now (out .entry))) 2) table)
           (limitsAt sb))
         (now (out .entry)) r (now (out .exit)) ⌝ }
 {
     if out.len() < 2 {
         return 98;
     }
-    let OptionTable::Some(table) = given else {
+    let OptionTable::Some(t) = BitAllocTable::numbered(table as u64) else {
         return 14;
     };
-    let limits = parts::limits(table, sb as usize);
+    let limits = parts::limits(t, sb as usize);
     writing::put(&limits, out);
     0
 }
 
 // The steps at a place of a subband's row.
-pub fn nb_steps(given: OptionTable, sb: u64, index: u32, out: &mut [u32]) -> u32
+pub fn nb_steps(table: u8, sb: u64, index: u32, out: &mut [u32]) -> u32
     ensures { λ r. ⌜ Answers
         (answered
-          (asked (ltb (length (now (out .entry))) 1) (tableIn given))
+          (tableMeant (ltb (length (now (out .entry))) 1) table)
           (stepsFound sb index))
         (now (out .entry)) r (now (out .exit)) ⌝ }
 {
     if out.len() < 1 {
         return 98;
     }
-    let OptionTable::Some(table) = given else {
+    let OptionTable::Some(t) = BitAllocTable::numbered(table as u64) else {
         return 14;
     };
-    let found = table.nb_steps(sb as usize, index);
+    let found = t.nb_steps(sb as usize, index);
     let OptionU32::Some(steps) = found else {
         return 97;
     };
@@ -51,20 +51,20 @@ pub fn nb_steps(given: OptionTable, sb: u64, index: u32, out: &mut [u32]) -> u32
 }
 
 // The place of a subband's row that has these steps.
-pub fn allocation_index(given: OptionTable, sb: u64, steps: u32, out: &mut [u32]) -> u32
+pub fn allocation_index(table: u8, sb: u64, steps: u32, out: &mut [u32]) -> u32
     ensures { λ r. ⌜ Answers
         (answered
-          (asked (ltb (length (now (out .entry))) 1) (tableIn given))
+          (tableMeant (ltb (length (now (out .entry))) 1) table)
           (indexFound sb steps))
         (now (out .entry)) r (now (out .exit)) ⌝ }
 {
     if out.len() < 1 {
         return 98;
     }
-    let OptionTable::Some(table) = given else {
+    let OptionTable::Some(t) = BitAllocTable::numbered(table as u64) else {
         return 14;
     };
-    let found = table.allocation_index(sb as usize, steps);
+    let found = t.allocation_index(sb as usize, steps);
     let OptionU32::Some(index) = found else {
         return 97;
     };
@@ -94,4 +94,20 @@ pub fn class_of_quantization(steps: u32, cd: &mut [f64], out: &mut [u32]) -> u32
     let figures = parts::figures(found);
     writing::put(&figures, out);
     parts::class_number(found)
+}
+
+// The signal-to-noise ratio of a number of steps.
+pub fn snr_db(steps: u32, out: &mut [f64]) -> u32
+    ensures { λ r. ⌜ Answers
+        (answered
+          (asked (ltb (length (now (out .entry))) 1) (some steps))
+          snrFound)
+        (now (out .entry)) r (now (out .exit)) ⌝ }
+{
+    if out.len() < 1 {
+        return 98;
+    }
+    let found = encoder_bit_demand::snr_db(steps);
+    out[0] = parts::snr_db(found);
+    parts::snr_number(found)
 }

@@ -6,7 +6,7 @@ ghost use Rattle.c_answers.specs.Answers.{answered, Answers};
 ghost use Rattle.c_answers.specs.Arguments.{headerMeant};
 ghost use Rattle.c_answers.specs.Replies.{tableSelected, frameSized};
 ghost use Rattle.c_answers.specs.Replies.{budgetFixed, bitsAvailable, bitsDemanded, stepsAllocated, bitsAllocated};
-use c_answers::arguments;
+use c_answers::arguments::HeaderNumbers;
 
 // The allocation table that a header selects.
 #[no_mangle]
@@ -27,7 +27,7 @@ pub extern "C" fn folgrist_select_table(
           tableSelected)
         (now (out .entry)) r (now (out .exit)) ⌝ }
 {
-    let given = arguments::header_given(lsf, bit_rate, sample_rate, padding, protection_bit, mode, mode_extension);
+    let given = HeaderNumbers { lsf, bit_rate, sample_rate, padding, protection_bit, mode, mode_extension };
     c_frame::select_table(given, out)
 }
 
@@ -50,7 +50,7 @@ pub extern "C" fn folgrist_frame_size_bytes(
           frameSized)
         (now (out .entry)) r (now (out .exit)) ⌝ }
 {
-    let given = arguments::header_given(lsf, bit_rate, sample_rate, padding, protection_bit, mode, mode_extension);
+    let given = HeaderNumbers { lsf, bit_rate, sample_rate, padding, protection_bit, mode, mode_extension };
     c_frame::frame_size_bytes(given, out)
 }
 
@@ -73,7 +73,7 @@ pub extern "C" fn folgrist_fixed_bit_budget(
           budgetFixed)
         (now (out .entry)) r (now (out .exit)) ⌝ }
 {
-    let given = arguments::header_given(lsf, bit_rate, sample_rate, padding, protection_bit, mode, mode_extension);
+    let given = HeaderNumbers { lsf, bit_rate, sample_rate, padding, protection_bit, mode, mode_extension };
     c_frame::fixed_bit_budget(given, out)
 }
 
@@ -97,7 +97,7 @@ pub extern "C" fn folgrist_available_data_bits(
           (bitsAvailable banc))
         (now (out .entry)) r (now (out .exit)) ⌝ }
 {
-    let given = arguments::header_given(lsf, bit_rate, sample_rate, padding, protection_bit, mode, mode_extension);
+    let given = HeaderNumbers { lsf, bit_rate, sample_rate, padding, protection_bit, mode, mode_extension };
     c_frame::available_data_bits(given, banc, out)
 }
 
@@ -121,7 +121,7 @@ pub extern "C" fn folgrist_demand_bits(
           (bitsDemanded (now («smr_db» .entry))))
         (now (out .entry)) r (now (out .exit)) ⌝ }
 {
-    let given = arguments::header_given(lsf, bit_rate, sample_rate, padding, protection_bit, mode, mode_extension);
+    let given = HeaderNumbers { lsf, bit_rate, sample_rate, padding, protection_bit, mode, mode_extension };
     c_frame::demand_bits(given, smr_db, out)
 }
 
@@ -153,6 +153,6 @@ pub extern "C" fn folgrist_allocate_bits(
           (bitsAllocated (now («smr_db» .entry)) banc))
         (now (out .entry)) r (now (out .exit)) ⌝ }
 {
-    let given = arguments::header_given(lsf, bit_rate, sample_rate, padding, protection_bit, mode, mode_extension);
+    let given = HeaderNumbers { lsf, bit_rate, sample_rate, padding, protection_bit, mode, mode_extension };
     c_frame::allocate_bits(given, banc, smr_db, steps, out)
 }

@@ -5,7 +5,6 @@ ghost use lib.Dec.{ltb};
 ghost use lib.ListN.{length};
 ghost use Rattle.c_answers.specs.Answers.{asked, answered, Answers};
 ghost use Rattle.c_answers.specs.Replies.{sampleCoded, tripletCoded};
-use c_answers::parts;
 use c_subband::samples;
 
 // The code of a sample in the class of a number of steps.
@@ -17,12 +16,7 @@ pub extern "C" fn folgrist_quantize_sample(steps: u32, sample: f64, out: &mut [u
           (sampleCoded sample))
         (now (out .entry)) r (now (out .exit)) ⌝ }
 {
-    if out.len() < 1 {
-        return 98;
-    }
-    let coded = encoder_samples::quantize_sample_for(steps, sample);
-    out[0] = parts::sample_code(coded);
-    parts::code_number(coded)
+    samples::quantize_sample(steps, sample, out)
 }
 
 // The codewords of three consecutive samples in the class of a number of steps.

@@ -7,8 +7,6 @@ ghost use Rattle.quantization.specs.Classes.{SampleBitsAre};
 ghost use Rattle.c_answers.specs.Answers.{asked, answered, Answers};
 ghost use Rattle.c_answers.specs.Arguments.{tableMeant};
 ghost use Rattle.c_answers.specs.Replies.{limitsAt, stepsFound, indexFound, coefficients, classFigures, snrFound};
-use bitalloc::BitAllocTable;
-use c_answers::parts;
 use c_subband::table_rows;
 
 // How many subbands a table carries, and the bits of a subband's allocation field.
@@ -20,7 +18,7 @@ pub extern "C" fn folgrist_table_limits(table: u8, sb: u64, out: &mut [u32]) -> 
           (limitsAt sb))
         (now (out .entry)) r (now (out .exit)) ⌝ }
 {
-    table_rows::table_limits(BitAllocTable::numbered(table as u64), sb, out)
+    table_rows::table_limits(table, sb, out)
 }
 
 // The steps at a place of a subband's row.
@@ -32,7 +30,7 @@ pub extern "C" fn folgrist_nb_steps(table: u8, sb: u64, index: u32, out: &mut [u
           (stepsFound sb index))
         (now (out .entry)) r (now (out .exit)) ⌝ }
 {
-    table_rows::nb_steps(BitAllocTable::numbered(table as u64), sb, index, out)
+    table_rows::nb_steps(table, sb, index, out)
 }
 
 // The place of a subband's row that has these steps.
@@ -44,7 +42,7 @@ pub extern "C" fn folgrist_allocation_index(table: u8, sb: u64, steps: u32, out:
           (indexFound sb steps))
         (now (out .entry)) r (now (out .exit)) ⌝ }
 {
-    table_rows::allocation_index(BitAllocTable::numbered(table as u64), sb, steps, out)
+    table_rows::allocation_index(table, sb, steps, out)
 }
 
 // The class of quantization of a number of steps.
@@ -81,10 +79,5 @@ pub extern "C" fn folgrist_snr_db(steps: u32, out: &mut [f64]) -> u32
           snrFound)
         (now (out .entry)) r (now (out .exit)) ⌝ }
 {
-    if out.len() < 1 {
-        return 98;
-    }
-    let found = encoder_bit_demand::snr_db(steps);
-    out[0] = parts::snr_db(found);
-    parts::snr_number(found)
+    table_rows::snr_db(steps, out)
 }

@@ -1,5 +1,5 @@
 -- `c_frame::allocate_bits` meets its contract: the reply is what `allocate_bits` answers for the two rows of ratios.
-use mathlib.Core.Path.{_≡_, ap, _∙_}
+use mathlib.Core.Path.{_≡_, sym, ap, _∙_}
 use Prim.Native.Nat.{_≤_}
 use native.Mathlib.Omega.{arith}
 use lib.ListN.{length}
@@ -14,10 +14,10 @@ use Rattle.c_frame.proofs.allocate_bits.Statement.{statement}
 use Rattle.c_frame.proofs.allocate_bits.Tie as tie
 
 -- the places that the needs look back to: the slices that are long enough, the header told, the values that are written, the first of them written
-abbrev at-long : tie.After-given → tie.Else1
-at-long told = told .before .before
+abbrev at-long : tie.After-header → tie.Else1
+at-long told = told .before .before .before
 
-abbrev at-told : tie.After-allocation-values → tie.After-given
+abbrev at-told : tie.After-allocation-values → tie.After-header
 at-told bits = bits .before .before .before .before .before
 
 abbrev at-bits : tie.After-put-arg → tie.After-allocation-values
@@ -36,15 +36,18 @@ all-bits c = search needs
 returns : tie.Need-returns
 returns c = (refused-by _ _ _ _ (too-short _ _ (c .if1 .taken)), refused-by _ _ _ _ (too-short _ _ (c .if1 .taken)))
 
-enum-known-given : tie.Need-enum-known-given
-enum-known-given c = search needs
+header-given-requires : tie.Need-header-given-requires
+header-given-requires c κs = search needs
+
+enum-known-header : tie.Need-enum-known-header
+enum-known-header c = search needs
 
 enum-told : tie.Need-enum-told
 enum-told c = search needs
 
 returns-2 : tie.Need-returns-2
 returns-2 c =
-    let nothing = no-meaning _ _ (c .before .before .if1 .left) (ap headerFrom (c .enum-told .given .1)) in
+    let nothing = no-meaning _ _ (c .before .before .before .if1 .left) (sym (c .before .before .header-given .ensures) ∙ ap headerFrom (c .enum-told .given .1)) in
     (refused-by _ _ _ _ nothing, refused-by _ _ _ _ nothing)
 
 rows-requires : tie.Need-rows-requires
@@ -92,12 +95,12 @@ returns-3 c =
     let four = all-bits bits in
     let in-steps : length (steps .steps-by-slot .result) ≤ length (args .steps .now) = omega arith in
     let in-out : length (bits .allocation-values .result) ≤ length (args .out .now) = omega arith in
-    let header = told .given .given .0 .0 in
+    let header = told .header .given .0 .0 in
     let replied = reply (allocated .allocate-bits .result .number) in
     let whole =
         allocated .allocate-bits .ensures .whole
         ∙ ap (allocationOf (plain header (args .banc))) (allocated .before .rows .ensures) in
-    let meant = a-meaning _ _ _ (long .if1 .left) (ap headerFrom (told .given .given .1)) in
+    let meant = a-meaning _ _ _ (long .if1 .left) (sym (told .before .before .header-given .ensures) ∙ ap headerFrom (told .header .given .1)) in
     (
       put-by _ _ _ _ _ (steps .steps-by-slot .result) _ meant
       (ap replied (steps .steps-by-slot .ensures) ∙ ap (λ x. reply (x .number) (x .audio .«nb_steps»)) whole)
@@ -112,7 +115,8 @@ allocate-bits-spec =
     tie.close
     (tie.spec
     returns
-    enum-known-given
+    header-given-requires
+    enum-known-header
     enum-told
     returns-2
     rows-requires

@@ -1,6 +1,6 @@
 -- `c_frame::demand_bits` meets its contract: the reply is what `demand_bits` answers for the two rows of ratios.
 use lib.ListN.{length}
-use mathlib.Core.Path.{ap, ap₂, _∙_}
+use mathlib.Core.Path.{sym, ap, ap₂, _∙_}
 use Prim.Native.Nat.{ℕ}
 use mathlib.Core.List.{[], _∷_}
 use borrow.Author.Needs.{needs}
@@ -12,23 +12,26 @@ use Rattle.c_frame.proofs.demand_bits.Statement.{statement}
 use Rattle.c_frame.proofs.demand_bits.Tie as tie
 
 -- the header told, and the slices that are long enough
-abbrev at-told : tie.After-bits → tie.After-given
+abbrev at-told : tie.After-bits → tie.After-header
 at-told bits = bits .before .before .before .before
 
-abbrev at-long : tie.After-given → tie.Else1
-at-long told = told .before .before
+abbrev at-long : tie.After-header → tie.Else1
+at-long told = told .before .before .before
 
 returns : tie.Need-returns
 returns c = refused-by _ _ _ _ (too-short _ _ (c .if1 .taken))
 
-enum-known-given : tie.Need-enum-known-given
-enum-known-given c = search needs
+header-given-requires : tie.Need-header-given-requires
+header-given-requires c κs = search needs
+
+enum-known-header : tie.Need-enum-known-header
+enum-known-header c = search needs
 
 enum-told : tie.Need-enum-told
 enum-told c = search needs
 
 returns-2 : tie.Need-returns-2
-returns-2 c = refused-by _ _ _ _ (no-meaning _ _ (c .before .before .if1 .left) (ap headerFrom (c .enum-told .given .1)))
+returns-2 c = refused-by _ _ _ _ (no-meaning _ _ (c .before .before .before .if1 .left) (sym (c .before .before .header-given .ensures) ∙ ap headerFrom (c .enum-told .given .1)))
 
 rows-requires : tie.Need-rows-requires
 rows-requires c κs = search needs
@@ -57,7 +60,7 @@ returns-3 c =
     let told = at-told (c .before) in
     let long = at-long told in
     let args = long .before .before .before .args in
-    one-by _ _ _ _ _ _ (a-meaning _ _ _ (long .if1 .left) (ap headerFrom (told .given .given .1)))
+    one-by _ _ _ _ _ _ (a-meaning _ _ _ (long .if1 .left) (sym (told .before .before .header-given .ensures) ∙ ap headerFrom (told .header .given .1)))
     (ap₂ (λ (n bits : ℕ). reply n (bits ∷ [])) (c .refusal .ensures) (c .before .bits .ensures)
     ∙ ap (λ a. reply (a .answer) (a .bits ∷ [])) (demand .demand-bits .ensures .whole ∙ ap (demandOf _) (demand .before .rows .ensures)))
     (both-long (length (args .smr-db .now)) 64 (length (args .out .now)) 1 (long .if1 .left) .1)
@@ -67,7 +70,8 @@ demand-bits-spec =
     tie.close
     (tie.spec
     returns
-    enum-known-given
+    header-given-requires
+    enum-known-header
     enum-told
     returns-2
     rows-requires

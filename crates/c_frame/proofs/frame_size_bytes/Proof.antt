@@ -1,6 +1,6 @@
 -- `c_frame::frame_size_bytes` meets its contract: the reply is the size that `frame_size_bytes` answers.
 use borrow.Author.Tests.{lt-ltb, le-ltb}
-use mathlib.Core.Path.{ap}
+use mathlib.Core.Path.{sym, ap, _∙_}
 use mathlib.Core.List.{[], _∷_}
 use borrow.Author.Needs.{needs}
 use Rattle.c_answers.proofs.AnswerLaws.{too-short, no-meaning, a-meaning, refused-by, one-by}
@@ -12,14 +12,17 @@ use Rattle.c_frame.proofs.frame_size_bytes.Tie as tie
 returns : tie.Need-returns
 returns c = refused-by _ _ _ _ (too-short _ _ (lt-ltb _ _ (c .if1 .taken)))
 
-enum-known-given : tie.Need-enum-known-given
-enum-known-given c = search needs
+header-given-requires : tie.Need-header-given-requires
+header-given-requires c κs = search needs
+
+enum-known-header : tie.Need-enum-known-header
+enum-known-header c = search needs
 
 enum-told : tie.Need-enum-told
 enum-told c = search needs
 
 returns-2 : tie.Need-returns-2
-returns-2 c = refused-by _ _ _ _ (no-meaning _ _ (le-ltb _ _ (c .before .before .if1 .left)) (ap headerFrom (c .enum-told .given .1)))
+returns-2 c = refused-by _ _ _ _ (no-meaning _ _ (le-ltb _ _ (c .before .before .before .if1 .left)) (sym (c .before .before .header-given .ensures) ∙ ap headerFrom (c .enum-told .given .1)))
 
 frame-size-bytes-requires : tie.Need-frame-size-bytes-requires
 frame-size-bytes-requires c κs = search needs
@@ -39,8 +42,8 @@ same-length c = search needs
 returns-3 : tie.Need-returns-3
 returns-3 c =
     let told = c .before .before .before .before in
-    let long = told .before .before .if1 .left in
-    one-by _ _ _ _ _ _ (a-meaning _ _ _ (le-ltb _ _ long) (ap headerFrom (told .given .given .1)))
+    let long = told .before .before .before .if1 .left in
+    one-by _ _ _ _ _ _ (a-meaning _ _ _ (le-ltb _ _ long) (sym (told .before .before .header-given .ensures) ∙ ap headerFrom (told .header .given .1)))
     (rw (c .size-number .ensures, c .before .size-bytes .ensures)
     (ap (λ s. reply (s .answer) (s .bytes ∷ [])) (c .before .before .frame-size-bytes .ensures .whole)))
     long
@@ -50,7 +53,8 @@ frame-size-bytes-spec =
     tie.close
     (tie.spec
     returns
-    enum-known-given
+    header-given-requires
+    enum-known-header
     enum-told
     returns-2
     frame-size-bytes-requires

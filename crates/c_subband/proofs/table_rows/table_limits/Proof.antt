@@ -1,6 +1,6 @@
 -- `c_subband::table_rows::table_limits` meets its contract: the reply has what the table says.
 use Prim.Native.Nat.{_≤_}
-use mathlib.Core.Path.{ap}
+use mathlib.Core.Path.{sym, ap, _∙_}
 use lib.ListN.{length}
 use borrow.Author.Tests.{lt-ltb, le-ltb}
 use borrow.Author.Needs.{needs}
@@ -13,14 +13,17 @@ use Rattle.c_subband.proofs.table_rows.table_limits.Tie as tie
 returns : tie.Need-returns
 returns c = refused-by _ _ _ _ (too-short _ _ (lt-ltb _ _ (c .if1 .taken)))
 
-enum-known-given : tie.Need-enum-known-given
-enum-known-given c = search needs
+numbered-requires : tie.Need-numbered-requires
+numbered-requires c κs = search needs
+
+enum-known-t : tie.Need-enum-known-t
+enum-known-t c = search needs
 
 enum-told : tie.Need-enum-told
 enum-told c = search needs
 
 returns-2 : tie.Need-returns-2
-returns-2 c = refused-by _ _ _ _ (no-meaning _ _ (le-ltb _ _ (c .before .before .if1 .left)) (ap tableIn (c .enum-told .given .1)))
+returns-2 c = refused-by _ _ _ _ (no-meaning _ _ (le-ltb _ _ (c .before .before .before .if1 .left)) (sym (c .before .before .numbered .ensures) ∙ ap tableIn (c .enum-told .given .1)))
 
 limits-requires : tie.Need-limits-requires
 limits-requires c κs = search needs
@@ -39,9 +42,9 @@ returns-3 c =
     let p = c .before .before in
     let l = p .before .before .before in
     let told = l .before .before in
-    let long = told .before .before .if1 .left in
-    let room : length (l .limits .result) ≤ length (told .before .before .before .before .args .out .now) = rw (l .limits .ensures) long in
-    put-by _ _ _ _ 0 (l .limits .result) _ (a-meaning _ _ _ (le-ltb _ _ long) (ap tableIn (told .given .given .1)))
+    let long = told .before .before .before .if1 .left in
+    let room : length (l .limits .result) ≤ length (told .before .before .before .before .before .args .out .now) = rw (l .limits .ensures) long in
+    put-by _ _ _ _ 0 (l .limits .result) _ (a-meaning _ _ _ (le-ltb _ _ long) (sym (told .before .before .numbered .ensures) ∙ ap tableIn (told .t .given .1)))
     (ap (reply 0) (l .limits .ensures)) room (p .put .ensures)
 
 pub table-limits-spec : {M : Type 1} → statement M
@@ -49,7 +52,8 @@ table-limits-spec =
     tie.close
     (tie.spec
     returns
-    enum-known-given
+    numbered-requires
+    enum-known-t
     enum-told
     returns-2
     limits-requires

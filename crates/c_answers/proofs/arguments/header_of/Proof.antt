@@ -1,10 +1,10 @@
--- `c_answers::arguments::header_given` meets its contract: the mode, the extension and the flags mean something, or one of them does not.
+-- `c_answers::arguments::header_of` meets its contract: the mode, the extension and the flags mean something, or one of them does not.
 use mathlib.Core.Path.{sym, ap, _∙_}
 use borrow.Author.Needs.{needs}
 use Rattle.header.specs.Header.{modeIn, extensionIn}
 use Rattle.c_answers.proofs.ArgumentLaws.{no-mode, no-extension, flagged, no-flag}
-use Rattle.c_answers.proofs.arguments.header_given.Statement.{statement}
-use Rattle.c_answers.proofs.arguments.header_given.Tie as tie
+use Rattle.c_answers.proofs.arguments.header_of.Statement.{statement}
+use Rattle.c_answers.proofs.arguments.header_of.Tie as tie
 
 of-code-requires : tie.Need-of-code-requires
 of-code-requires c κs = search needs
@@ -55,8 +55,8 @@ returns-4 c =
     no-flag _ _ _ _ _ _ _ _ (sym (k .of-code .ensures) ∙ ap modeIn (m .mode .given .1))
     _ (sym (j .of-code2 .ensures) ∙ ap extensionIn (e .mode-extension .given .1)) (c .if1 .left)
 
-pub header-given-spec : {M : Type 1} → statement M
-header-given-spec =
+pub header-of-spec : {M : Type 1} → statement M
+header-of-spec =
     tie.close
     (tie.spec
     of-code-requires

@@ -1,11 +1,11 @@
--- `folgrist_mp2::table_rows::folgrist_snr_db` meets its contract: the reply is what `snr_db` finds.
+-- `c_subband::table_rows::snr_db` meets its contract: the reply is what `snr_db` finds.
 use mathlib.Core.List.{[], _∷_}
 use borrow.Author.Tests.{lt-ltb, le-ltb}
 use borrow.Author.Needs.{needs}
 use Rattle.c_answers.proofs.AnswerLaws.{too-short, long-enough, refused-by, one-by, found-or}
 use Rattle.c_answers.specs.Replies.{snrOr}
-use Rattle.folgrist_mp2.proofs.table_rows.folgrist_snr_db.Statement.{statement}
-use Rattle.folgrist_mp2.proofs.table_rows.folgrist_snr_db.Tie as tie
+use Rattle.c_subband.proofs.table_rows.snr_db.Statement.{statement}
+use Rattle.c_subband.proofs.table_rows.snr_db.Tie as tie
 
 returns : tie.Need-returns
 returns c = refused-by _ _ _ _ (too-short _ _ (lt-ltb _ _ (c .if1 .taken)))
@@ -32,8 +32,8 @@ returns-2 c =
     (rw (c .snr-number .ensures, c .before .snr-db2 .ensures) (found-or _ _ 5 (λ o. snrOr o ∷ []) (q .snr-db .ensures)))
     (q .before .if1 .left)
 
-pub folgrist-snr-db-spec : {M : Type 1} → statement M
-folgrist-snr-db-spec =
+pub snr-db-spec : {M : Type 1} → statement M
+snr-db-spec =
     tie.close
     (tie.spec
     returns

@@ -1,12 +1,12 @@
--- `folgrist_mp2::samples::folgrist_quantize_sample` meets its contract: the reply is the code that `quantize_sample_for` answers.
+-- `c_subband::samples::quantize_sample` meets its contract: the reply is the code that `quantize_sample_for` answers.
 use mathlib.Core.Path.{ap}
 use mathlib.Core.List.{[], _∷_}
 use borrow.Author.Tests.{lt-ltb, le-ltb}
 use borrow.Author.Needs.{needs}
 use Rattle.c_answers.proofs.AnswerLaws.{too-short, long-enough, refused-by, one-by}
 use Rattle.c_answers.specs.Answers.{reply}
-use Rattle.folgrist_mp2.proofs.samples.folgrist_quantize_sample.Statement.{statement}
-use Rattle.folgrist_mp2.proofs.samples.folgrist_quantize_sample.Tie as tie
+use Rattle.c_subband.proofs.samples.quantize_sample.Statement.{statement}
+use Rattle.c_subband.proofs.samples.quantize_sample.Tie as tie
 
 returns : tie.Need-returns
 returns c = refused-by _ _ _ _ (too-short _ _ (lt-ltb _ _ (c .if1 .taken)))
@@ -33,8 +33,8 @@ returns-2 c =
     (rw (c .code-number .ensures, c .before .sample-code .ensures) (ap (λ s. reply (s .answer) (s .code ∷ [])) (q .quantize-sample-for .ensures .whole)))
     (q .before .if1 .left)
 
-pub folgrist-quantize-sample-spec : {M : Type 1} → statement M
-folgrist-quantize-sample-spec =
+pub quantize-sample-spec : {M : Type 1} → statement M
+quantize-sample-spec =
     tie.close
     (tie.spec
     returns
