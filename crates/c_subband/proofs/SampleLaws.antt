@@ -1,30 +1,23 @@
 -- Laws of samples that are taken from a slice.
-use mathlib.Core.Path.{_≡_, refl, ap, _∙_, subst}
-use mathlib.Core.List.{List, [], _∷_, _++_, append-nil}
-use Prim.Native.Nat.{ℕ, zero, suc, _+_, _-_, _*_, _/_, _%_, _≤_, _<_}
-use native.Mathlib.Nat.{le-of-suc-le-suc, not-suc-le-zero}
+use mathlib.Core.Path.{_≡_, ap, _∙_, subst}
+use mathlib.Core.List.{List, [], _++_, append-nil}
+use Prim.Native.Nat.{ℕ, _+_, _-_, _*_, _/_, _%_, _≤_, _<_}
 use native.Mathlib.Omega.{arith}
 use lib.Ieee.{Float}
-use lib.ListN.{length, getD, set, take, drop, length-take, length-drop}
+use lib.ListN.{length, getD, set, take, drop, length-take, length-drop, drop-of-length-le}
 use Rattle.tables.proofs.Listed.{listed, tabulated, length-tabulate}
 use Rattle.c_answers.specs.Answers.{written, fitted}
 use Rattle.c_answers.specs.Replies.{subbandRows, byGranule}
 use Rattle.c_answers.proofs.AnswerLaws.{fits, Putting, put-one, put-all}
 
 module _ {A : Type 0} where
-  drop-past : (n : ℕ) (l : List A) → length l ≤ n → drop n l ≡ []
-  drop-past zero [] h = refl
-  drop-past zero (x ∷ l) h = absurd (not-suc-le-zero h)
-  drop-past (suc n) [] h = refl
-  drop-past (suc n) (x ∷ l) h = drop-past n l (le-of-suc-le-suc h)
-
   -- a part of a slice, written over as many elements
   pub part-copied : (s old new : List A) (a e n : ℕ) → e ≡ a + n → e ≤ length s → length old ≡ n
     → new ≡ fitted (take (e - a) (drop a s)) old → new ≡ take n (drop a s)
   part-copied s old new a e n p h l q =
       let m : e - a ≡ n = omega arith in
       fits (take (e - a) (drop a s)) old new (simp (length-take, length-drop) (omega arith)) q ∙ ap (λ (k : ℕ). written (take k (drop a s)) old) m
-      ∙ ap (λ (r : List A). take n (drop a s) ++ r) (drop-past (length (take n (drop a s))) old (simp (length-take, length-drop) (omega arith)))
+      ∙ ap (λ (r : List A). take n (drop a s) ++ r) (drop-of-length-le old {i = length (take n (drop a s))} (simp (length-take, length-drop) (omega arith)))
       ∙ append-nil (take n (drop a s))
 
 -- the rows of all subbands

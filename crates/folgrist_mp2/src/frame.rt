@@ -27,8 +27,7 @@ pub extern "C" fn folgrist_select_table(
           tableSelected)
         (now (out .entry)) r (now (out .exit)) ⌝ }
 {
-    let given = HeaderNumbers { lsf, bit_rate, sample_rate, padding, protection_bit, mode, mode_extension };
-    c_frame::select_table(given, out)
+    c_frame::select_table(HeaderNumbers { lsf, bit_rate, sample_rate, padding, protection_bit, mode, mode_extension }, out)
 }
 
 // The length of the frame in bytes.
@@ -50,8 +49,7 @@ pub extern "C" fn folgrist_frame_size_bytes(
           frameSized)
         (now (out .entry)) r (now (out .exit)) ⌝ }
 {
-    let given = HeaderNumbers { lsf, bit_rate, sample_rate, padding, protection_bit, mode, mode_extension };
-    c_frame::frame_size_bytes(given, out)
+    c_frame::frame_size_bytes(HeaderNumbers { lsf, bit_rate, sample_rate, padding, protection_bit, mode, mode_extension }, out)
 }
 
 // The bits that are fixed for the frame.
@@ -73,8 +71,7 @@ pub extern "C" fn folgrist_fixed_bit_budget(
           budgetFixed)
         (now (out .entry)) r (now (out .exit)) ⌝ }
 {
-    let given = HeaderNumbers { lsf, bit_rate, sample_rate, padding, protection_bit, mode, mode_extension };
-    c_frame::fixed_bit_budget(given, out)
+    c_frame::fixed_bit_budget(HeaderNumbers { lsf, bit_rate, sample_rate, padding, protection_bit, mode, mode_extension }, out)
 }
 
 // The bits that the frame offers beside `banc` ancillary bits.
@@ -97,8 +94,7 @@ pub extern "C" fn folgrist_available_data_bits(
           (bitsAvailable banc))
         (now (out .entry)) r (now (out .exit)) ⌝ }
 {
-    let given = HeaderNumbers { lsf, bit_rate, sample_rate, padding, protection_bit, mode, mode_extension };
-    c_frame::available_data_bits(given, banc, out)
+    c_frame::available_data_bits(HeaderNumbers { lsf, bit_rate, sample_rate, padding, protection_bit, mode, mode_extension }, banc, out)
 }
 
 // The bits that the signal-to-mask ratios demand.
@@ -121,8 +117,7 @@ pub extern "C" fn folgrist_demand_bits(
           (bitsDemanded (now («smr_db» .entry))))
         (now (out .entry)) r (now (out .exit)) ⌝ }
 {
-    let given = HeaderNumbers { lsf, bit_rate, sample_rate, padding, protection_bit, mode, mode_extension };
-    c_frame::demand_bits(given, smr_db, out)
+    c_frame::demand_bits(HeaderNumbers { lsf, bit_rate, sample_rate, padding, protection_bit, mode, mode_extension }, smr_db, out)
 }
 
 // The steps of each slot, and the bits left.
@@ -153,6 +148,5 @@ pub extern "C" fn folgrist_allocate_bits(
           (bitsAllocated (now («smr_db» .entry)) banc))
         (now (out .entry)) r (now (out .exit)) ⌝ }
 {
-    let given = HeaderNumbers { lsf, bit_rate, sample_rate, padding, protection_bit, mode, mode_extension };
-    c_frame::allocate_bits(given, banc, smr_db, steps, out)
+    c_frame::allocate_bits(HeaderNumbers { lsf, bit_rate, sample_rate, padding, protection_bit, mode, mode_extension }, banc, smr_db, steps, out)
 }
