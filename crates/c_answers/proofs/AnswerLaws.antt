@@ -1,7 +1,7 @@
 -- Laws of the first questions, and of what is written.
 use mathlib.Core.Path.{_≡_, refl, sym, ap, _∙_, subst}
-use mathlib.Core.Bool.{Bool, true, false, cond, _||_}
-use mathlib.Core.List.{List, [], _∷_}
+use mathlib.Core.Bool.{Bool, true, false, cond, _||_, _&&_}
+use mathlib.Core.List.{List, [], _∷_, _++_, append-nil}
 use mathlib.Core.Option.{Option, none, some}
 use Prim.Native.Nat.{ℕ, suc, _+_, _≤_, _<_}
 use native.Mathlib.Nat.{not-suc-le-zero, zero-add}
@@ -9,9 +9,9 @@ use native.Mathlib.Numerals.{add-one}
 use native.Mathlib.Omega.{arith}
 use mir.Val.{boolByte}
 use lib.Dec.{T, ltb}
-use lib.ListN.{length, getD, set, length-set}
-use lib.Seq.{paste, paste-zero, paste-suc, take-length}
-use borrow.Author.Tests.{ltb-false}
+use lib.ListN.{length, getD, set, take, drop, length-set, length-append, length-drop, drop-of-length-le}
+use lib.Seq.{paste, paste-zero, paste-suc, take-length, take-all, take-append-le}
+use borrow.Author.Tests.{ltb-true, ltb-false}
 use Rattle.bitalloc.specs.declared.OptionU32.{OptionU32}
 use Rattle.bitalloc.specs.declared.OptionU32.the-variants as U32
 use Rattle.header.specs.Questions.{number}
@@ -22,10 +22,21 @@ use Rattle.audio_data.specs.Scfsi.{codeOf}
 use Rattle.encoder_scfsi.specs.declared.ScfsiSelection.{ScfsiSelection}
 use Rattle.encoder_scfsi.specs.Class.{classNumber}
 use Rattle.encoder_scfsi.specs.Select.{bit}
-use Rattle.c_answers.specs.Answers.{Meaning, refused, meant, asked, Reply, reply, silent, answered, orNothing, written, Answers}
+use Rattle.c_answers.specs.Answers.{Meaning, refused, meant, asked, Reply, reply, silent, answered, orNothing, written, fitted, Answers}
 use Rattle.c_answers.specs.Replies.{figuresOf, selectionValues}
 
 module _ {A : Type 0} where
+  long-written : (vs old : List A) → length vs ≤ length old → length (written vs old) ≤ length old
+  long-written vs old h = simp (length-append, length-drop) (omega arith)
+
+  -- values that the slice is long enough for
+  all-fit : (vs old : List A) → length vs ≤ length old → fitted vs old ≡ written vs old
+  unfolding fitted
+  all-fit vs old h = take-all (length old) (written vs old) (long-written vs old h)
+
+  pub fits : (vs old new : List A) → length vs ≤ length old → new ≡ fitted vs old → new ≡ written vs old
+  fits vs old new h e = e ∙ all-fit vs old h
+
   -- one value written
   one-written : (old : List A) (v : A) → 1 ≤ length old → set old 0 v ≡ written (v ∷ []) old
   one-written [] v h = absurd (not-suc-le-zero h)
@@ -51,23 +62,17 @@ three-long a k b l c m e =
     (f .0, g .0, g .1)
 
 module _ {X : Type 0} where
-  valued : Meaning X → ℕ
-  valued (refused n) = 0
-  valued (meant x) = 1
-
-  -- arguments that mean something came with slices that are long enough
-  pub room : (short : Bool) (o : Option X) (x : X) → asked short o ≡ meant x → short ≡ false
-  unfolding valued
-  room true o x e = absurd (apart (ap valued e))
-    where
-      apart : _≡_ {A = ℕ} 0 1 → ⊥
-      apart e = omega arith
-  room false o x e = refl
-
-  -- where nothing but the slices is asked about
+  -- the questions in their order: the slices; whether the arguments mean something
   pub too-short : (short : Bool) (o : Option X) → short ≡ true → asked short o ≡ refused 98
   too-short short o e = rw e
 
+  pub no-meaning : (short : Bool) (o : Option X) → short ≡ false → o ≡ none → asked short o ≡ refused 14
+  no-meaning short o e p = rw (e, p)
+
+  pub a-meaning : (short : Bool) (o : Option X) (x : X) → short ≡ false → o ≡ some x → asked short o ≡ meant x
+  a-meaning short o x e p = rw (e, p)
+
+  -- where nothing but the slices is asked about
   pub long-enough : (short : Bool) (x : X) → short ≡ false → asked short (some x) ≡ meant x
   long-enough short x e = rw e
 
@@ -83,6 +88,11 @@ module _ {X : Type 0} where
     -- the same, with one value
     pub one-by : (x : X) (r : ℕ) (v : A) → m ≡ meant x → reply r (v ∷ []) ≡ f x → 1 ≤ length old → Answers (answered m f) old r (set old 0 v)
     one-by x r v e p h = meant-by x r (v ∷ []) (set old 0 v) e p (one-written old v h)
+
+    -- the same, with values that are put into a slice which is long enough
+    pub put-by : (x : X) (r : ℕ) (vs new : List A) → m ≡ meant x → reply r vs ≡ f x → length vs ≤ length old → new ≡ fitted vs old
+      → Answers (answered m f) old r new
+    put-by x r vs new e p h q = meant-by x r vs new e p (fits vs old new h q)
 
 -- ---- something at a place, or nothing
 
@@ -122,20 +132,30 @@ two-written (x ∷ y ∷ old) v w h = refl
 
 -- ---- a loop that writes values from the front
 
+-- an index below two lengths
+pub both-below : (i a b : ℕ) → ltb i a && ltb i b ≡ true → (i < a) × (i < b)
+both-below i a b e = go (ltb i a) refl e
+  where
+    go : (t : Bool) → ltb i a ≡ t → t && ltb i b ≡ true → (i < a) × (i < b)
+    go true p e = (ltb-true i a p, ltb-true i b e)
+    go false p e = absurd (subst T (sym e) tt)
+
 module _ {A : Type 0} where
   -- the first i of them are written
   pub record Putting (vs old new : List A) (i : ℕ) : Type 0 where
     pub few : i ≤ length vs
+    pub inside : i ≤ length old
     pub long : length new ≡ length old
     pub so-far : new ≡ paste old 0 vs i
 
   pub put-none : (vs old : List A) → Putting vs old old 0
-  put-none vs old = record { few = omega arith; long = refl; so-far = paste-zero old 0 vs }
+  put-none vs old = record { few = omega arith; inside = omega arith; long = refl; so-far = paste-zero old 0 vs }
 
-  pub put-one : (vs old new : List A) (i : ℕ) (d : A) → length vs ≤ length old → i < length vs → Putting vs old new i
+  pub put-one : (vs old new : List A) (i : ℕ) (d : A) → i < length vs → i < length old → Putting vs old new i
     → Putting vs old (set new i (getD vs i d)) (i + 1)
-  put-one vs old new i d h l p = record {
+  put-one vs old new i d l h p = record {
     few = omega arith;
+    inside = omega arith;
     long = simp length-set (p .long);
     so-far = ap (λ (new : List A). set new i (getD vs i d)) (p .so-far) ∙ next (paste-suc old 0 vs i d (omega arith) l)
   }
@@ -148,3 +168,25 @@ module _ {A : Type 0} where
     where
       same : i ≤ length vs → i ≡ length vs
       same l = omega arith
+
+  -- the slice's end is reached first
+  put-inside : (vs old new : List A) (i : ℕ) → length old ≤ i → Putting vs old new i → new ≡ fitted vs old
+  unfolding fitted
+  put-inside vs old new i h p =
+      let same : i ≡ length old = let l = p .inside in omega arith in
+      let few : length old ≤ length vs = let l = p .few in omega arith in
+      p .so-far ∙ ap (paste old 0 vs) same ∙ cut (0 + length old) (zero-add (length old)) ∙ sym (take-append-le (length old) vs (drop (length vs) old) few)
+    where
+      cut : (n : ℕ) → n ≡ length old → take (length old) vs ++ drop n old ≡ take (length old) vs
+      cut n e = ap (λ (r : List A). take (length old) vs ++ r) (drop-of-length-le old {i = n} (omega arith)) ∙ append-nil (take (length old) vs)
+
+  -- the loop ends where one of the two is at its end
+  pub put-fitting : (vs old new : List A) (i : ℕ) → ltb i (length vs) && ltb i (length new) ≡ false → Putting vs old new i → new ≡ fitted vs old
+  put-fitting vs old new i e p = ended (ltb i (length vs)) refl e
+    where
+      ended : (t : Bool) → ltb i (length vs) ≡ t → t && ltb i (length new) ≡ false → new ≡ fitted vs old
+      ended true q e = put-inside vs old new i (let h = ltb-false i (length new) e in let l = p .long in omega arith) p
+      ended false q e =
+          let l = p .inside in
+          let h = ltb-false i (length vs) q in
+          put-all vs old new i h p ∙ sym (all-fit vs old (omega arith))

@@ -4,7 +4,7 @@ use mathlib.Core.Path.{_≡_}
 use mathlib.Core.Bool.{Bool, true, false}
 use mathlib.Core.List.{List, [], _∷_, _++_}
 use mathlib.Core.Option.{Option, none, some}
-use lib.ListN.{length, drop}
+use lib.ListN.{length, take, drop}
 
 -- ---- the questions that come before any other
 
@@ -48,6 +48,10 @@ orNothing (some x) = reply 0 (x ∷ [])
 -- the first elements of a slice written, the rest as before
 abbrev pub written : {A : Type 0} → List A → List A → List A
 written vs old = vs ++ drop (length vs) old
+
+-- the same, of values that the slice may be too short for
+unfoldable pub fitted : {A : Type 0} → List A → List A → List A
+fitted vs old = take (length old) (written vs old)
 
 -- it returns the reply's number, and leaves a slice with the reply's values
 pub record Answers {A : Type 0} (reply : Reply A) (old : List A) (r : ℕ) (new : List A) : Type 0 where

@@ -9,11 +9,10 @@ use Rattle.header.specs.declared.FrameHeader.{FrameHeader}
 use Rattle.header.specs.Header.{modeOfCode, extensionOfCode}
 use Rattle.bitalloc.specs.declared.BitAllocTable.{BitAllocTable}
 use Rattle.bitalloc.specs.Tables.{tableNumbered}
-use Rattle.c_answers.specs.Answers.{Meaning, refused, meant, asked}
+use Rattle.c_answers.specs.Answers.{Meaning, asked}
+use Rattle.c_answers.specs.declared.arguments.HeaderNumbers.{HeaderNumbers}
 use Rattle.c_answers.specs.declared.arguments.HeaderGiven.{HeaderGiven}
-use Rattle.c_answers.specs.declared.arguments.HeaderGiven.the-variants as Header
-use Rattle.c_answers.specs.declared.arguments.TableGiven.{TableGiven}
-use Rattle.c_answers.specs.declared.arguments.TableGiven.the-variants as Table
+use Rattle.c_answers.specs.declared.arguments.HeaderGiven.the-variants.{Meant, Nothing}
 
 -- a flag is 0 or 1
 abbrev pub areFlags : ℕ → ℕ → ℕ → Bool
@@ -42,6 +41,11 @@ headerIn lsf bit-rate sample-rate padding protection mode extension =
     (modeOfCode mode) (extensionOfCode extension))
     none
 
+-- the same of the code's seven numbers
+abbrev pub headerNumbered : HeaderNumbers → Option FrameHeader
+headerNumbered n =
+    headerIn (n .lsf) (n .«bit_rate») (n .«sample_rate») (n .padding) (n .«protection_bit») (n .mode) (n .«mode_extension»)
+
 -- what a function with a header asks first: whether a slice is short, then what the seven arguments mean
 abbrev pub headerMeant : Bool → ℕ → ℕ → ℕ → ℕ → ℕ → ℕ → ℕ → Meaning FrameHeader
 headerMeant short lsf bit-rate sample-rate padding protection mode extension =
@@ -51,11 +55,7 @@ headerMeant short lsf bit-rate sample-rate padding protection mode extension =
 abbrev pub tableMeant : Bool → ℕ → Meaning BitAllocTable
 tableMeant short table = asked short (tableNumbered table)
 
--- what the code's enums stand for
-abbrev pub headerFrom : HeaderGiven → Meaning FrameHeader
-headerFrom (Header.Refused n) = refused n
-headerFrom (Header.Meant h) = meant h
-
-abbrev pub tableFrom : TableGiven → Meaning BitAllocTable
-tableFrom (Table.Refused n) = refused n
-tableFrom (Table.Meant t) = meant t
+-- what the code's enum stands for
+abbrev pub headerFrom : HeaderGiven → Option FrameHeader
+headerFrom (Meant h) = some h
+headerFrom Nothing = none

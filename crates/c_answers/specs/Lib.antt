@@ -1,5 +1,4 @@
 pub mod Answers
 pub mod Arguments
 pub mod Replies
-pub mod Bounds
 pub mod Version

@@ -1,20 +1,12 @@
 // The functions of a header: the table that it selects, the bits of its frame, what they offer and what the ratios demand, and the allocation.
-ghost use mathlib.Core.Path.{_≡_};
 ghost use mathlib.Core.Bool.{_||_};
 ghost use lib.Dec.{ltb};
 ghost use lib.ListN.{length};
-ghost use Rattle.encoder_bit_budget.specs.Budget.{budgetIn};
 ghost use Rattle.c_answers.specs.Answers.{answered, Answers};
 ghost use Rattle.c_answers.specs.Arguments.{headerMeant};
-ghost use Rattle.c_answers.specs.Replies.{tableSelected, frameSized, budgetValues};
-ghost use Rattle.c_answers.specs.Bounds.{BoundedIn};
+ghost use Rattle.c_answers.specs.Replies.{tableSelected, frameSized};
 ghost use Rattle.c_answers.specs.Replies.{budgetFixed, bitsAvailable, bitsDemanded, stepsAllocated, bitsAllocated};
-use c_answers::arguments;
-use c_answers::arguments::HeaderGiven;
-use c_answers::parts;
-use crate::writing;
-use encoder_bit_budget::Budget;
-use layout::slots;
+use c_answers::arguments::HeaderNumbers;
 
 // The allocation table that a header selects.
 #[no_mangle]
@@ -35,16 +27,7 @@ pub extern "C" fn folgrist_select_table(
           tableSelected)
         (now (out .entry)) r (now (out .exit)) ⌝ }
 {
-    let short = out.len() < 1;
-    let given = arguments::header_given(short, lsf, bit_rate, sample_rate, padding, protection_bit, mode, mode_extension);
-    match given {
-        HeaderGiven::Refused(number) => number,
-        HeaderGiven::Meant(header) => {
-            let selected = table_selection::select_table(header);
-            out[0] = parts::selected_table(selected);
-            parts::selected_number(selected)
-        }
-    }
+    c_frame::select_table(HeaderNumbers { lsf, bit_rate, sample_rate, padding, protection_bit, mode, mode_extension }, out)
 }
 
 // The length of the frame in bytes.
@@ -66,16 +49,7 @@ pub extern "C" fn folgrist_frame_size_bytes(
           frameSized)
         (now (out .entry)) r (now (out .exit)) ⌝ }
 {
-    let short = out.len() < 1;
-    let given = arguments::header_given(short, lsf, bit_rate, sample_rate, padding, protection_bit, mode, mode_extension);
-    match given {
-        HeaderGiven::Refused(number) => number,
-        HeaderGiven::Meant(header) => {
-            let size = header.frame_size_bytes();
-            out[0] = parts::size_bytes(size);
-            parts::size_number(size)
-        }
-    }
+    c_frame::frame_size_bytes(HeaderNumbers { lsf, bit_rate, sample_rate, padding, protection_bit, mode, mode_extension }, out)
 }
 
 // The bits that are fixed for the frame.
@@ -97,39 +71,7 @@ pub extern "C" fn folgrist_fixed_bit_budget(
           budgetFixed)
         (now (out .entry)) r (now (out .exit)) ⌝ }
 {
-    let short = out.len() < 8;
-    let given = arguments::header_given(short, lsf, bit_rate, sample_rate, padding, protection_bit, mode, mode_extension);
-    match given {
-        HeaderGiven::Refused(number) => number,
-        HeaderGiven::Meant(header) => {
-            let budget = encoder_bit_budget::fixed_bit_budget(header);
-            let values = budget_values(budget);
-            writing::put(&values, out);
-            budget.refusal()
-        }
-    }
-}
-
-fn budget_values(budget: Budget) -> [u32; 8]
-    requires { ⌜ BoundedIn budget ⌝ }
-    ensures { λ r. ⌜ r ≡ budgetValues (budgetIn budget .budget) ⌝ }
-{
-    match budget {
-        Budget::Ok(b) => {
-            let table = b.table;
-            [
-                b.cb,
-                b.bhdr,
-                b.bcrc,
-                b.bbal,
-                b.sblimit as u32,
-                b.bound as u32,
-                b.channels as u32,
-                table.number(),
-            ]
-        }
-        Budget::Refused(_) => [0; 8],
-    }
+    c_frame::fixed_bit_budget(HeaderNumbers { lsf, bit_rate, sample_rate, padding, protection_bit, mode, mode_extension }, out)
 }
 
 // The bits that the frame offers beside `banc` ancillary bits.
@@ -152,16 +94,7 @@ pub extern "C" fn folgrist_available_data_bits(
           (bitsAvailable banc))
         (now (out .entry)) r (now (out .exit)) ⌝ }
 {
-    let short = out.len() < 1;
-    let given = arguments::header_given(short, lsf, bit_rate, sample_rate, padding, protection_bit, mode, mode_extension);
-    match given {
-        HeaderGiven::Refused(number) => number,
-        HeaderGiven::Meant(header) => {
-            let available = encoder_bit_budget::available_data_bits(header, banc);
-            out[0] = available.bits();
-            available.refusal()
-        }
-    }
+    c_frame::available_data_bits(HeaderNumbers { lsf, bit_rate, sample_rate, padding, protection_bit, mode, mode_extension }, banc, out)
 }
 
 // The bits that the signal-to-mask ratios demand.
@@ -184,16 +117,7 @@ pub extern "C" fn folgrist_demand_bits(
           (bitsDemanded (now («smr_db» .entry))))
         (now (out .entry)) r (now (out .exit)) ⌝ }
 {
-    let short = (smr_db.len() < 64) | (out.len() < 1);
-    let given = arguments::header_given(short, lsf, bit_rate, sample_rate, padding, protection_bit, mode, mode_extension);
-    match given {
-        HeaderGiven::Refused(number) => number,
-        HeaderGiven::Meant(header) => {
-            let demand = encoder_bit_demand::demand_bits(header, slots::rows(smr_db));
-            out[0] = demand.bits();
-            demand.refusal()
-        }
-    }
+    c_frame::demand_bits(HeaderNumbers { lsf, bit_rate, sample_rate, padding, protection_bit, mode, mode_extension }, smr_db, out)
 }
 
 // The steps of each slot, and the bits left.
@@ -224,17 +148,5 @@ pub extern "C" fn folgrist_allocate_bits(
           (bitsAllocated (now («smr_db» .entry)) banc))
         (now (out .entry)) r (now (out .exit)) ⌝ }
 {
-    let short = (smr_db.len() < 64) | ((steps.len() < 64) | (out.len() < 4));
-    let given = arguments::header_given(short, lsf, bit_rate, sample_rate, padding, protection_bit, mode, mode_extension);
-    match given {
-        HeaderGiven::Refused(number) => number,
-        HeaderGiven::Meant(header) => {
-            let allocation = encoder_bit_allocator::allocate_bits(header, slots::rows(smr_db), banc);
-            let nb_steps = parts::steps_by_slot(allocation);
-            let bits = parts::allocation_values(allocation);
-            writing::put(&nb_steps, steps);
-            writing::put(&bits, out);
-            allocation.number
-        }
-    }
+    c_frame::allocate_bits(HeaderNumbers { lsf, bit_rate, sample_rate, padding, protection_bit, mode, mode_extension }, banc, smr_db, steps, out)
 }

@@ -5,8 +5,7 @@ ghost use lib.Dec.{ltb};
 ghost use lib.ListN.{length};
 ghost use Rattle.c_answers.specs.Answers.{asked, answered, Answers};
 ghost use Rattle.c_answers.specs.Replies.{sampleCoded, tripletCoded};
-use crate::writing;
-use c_answers::parts;
+use c_subband::samples;
 
 // The code of a sample in the class of a number of steps.
 #[no_mangle]
@@ -17,12 +16,7 @@ pub extern "C" fn folgrist_quantize_sample(steps: u32, sample: f64, out: &mut [u
           (sampleCoded sample))
         (now (out .entry)) r (now (out .exit)) ⌝ }
 {
-    if out.len() < 1 {
-        return 98;
-    }
-    let coded = encoder_samples::quantize_sample_for(steps, sample);
-    out[0] = parts::sample_code(coded);
-    parts::code_number(coded)
+    samples::quantize_sample(steps, sample, out)
 }
 
 // The codewords of three consecutive samples in the class of a number of steps.
@@ -34,12 +28,5 @@ pub extern "C" fn folgrist_write_triplet(steps: u32, a: f64, b: f64, c: f64, out
           (tripletCoded (a ∷ b ∷ c ∷ [])))
         (now (out .entry)) r (now (out .exit)) ⌝ }
 {
-    if out.len() < 5 {
-        return 98;
-    }
-    let answer = encoder_samples::write_triplet_for(steps, [a, b, c]);
-    let triplet = answer.triplet;
-    let values = parts::triplet_values(triplet);
-    writing::put(&values, out);
-    answer.number
+    samples::write_triplet(steps, a, b, c, out)
 }

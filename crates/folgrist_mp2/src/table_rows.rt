@@ -7,11 +7,7 @@ ghost use Rattle.quantization.specs.Classes.{SampleBitsAre};
 ghost use Rattle.c_answers.specs.Answers.{asked, answered, Answers};
 ghost use Rattle.c_answers.specs.Arguments.{tableMeant};
 ghost use Rattle.c_answers.specs.Replies.{limitsAt, stepsFound, indexFound, coefficients, classFigures, snrFound};
-use c_answers::arguments;
-use c_answers::arguments::TableGiven;
-use c_answers::parts;
-use crate::writing;
-use bitalloc::OptionU32;
+use c_subband::table_rows;
 
 // How many subbands a table carries, and the bits of a subband's allocation field.
 #[no_mangle]
@@ -22,15 +18,7 @@ pub extern "C" fn folgrist_table_limits(table: u8, sb: u64, out: &mut [u32]) -> 
           (limitsAt sb))
         (now (out .entry)) r (now (out .exit)) ⌝ }
 {
-    let given = arguments::table_given(out.len() < 2, table);
-    match given {
-        TableGiven::Refused(number) => number,
-        TableGiven::Meant(t) => {
-            let limits = parts::limits(t, sb as usize);
-            writing::put(&limits, out);
-            0
-        }
-    }
+    table_rows::table_limits(table, sb, out)
 }
 
 // The steps at a place of a subband's row.
@@ -42,20 +30,7 @@ pub extern "C" fn folgrist_nb_steps(table: u8, sb: u64, index: u32, out: &mut [u
           (stepsFound sb index))
         (now (out .entry)) r (now (out .exit)) ⌝ }
 {
-    let given = arguments::table_given(out.len() < 1, table);
-    match given {
-        TableGiven::Refused(number) => number,
-        TableGiven::Meant(t) => {
-            let found = t.nb_steps(sb as usize, index);
-            match found {
-                OptionU32::Some(steps) => {
-                    out[0] = steps;
-                    0
-                }
-                OptionU32::None => 97,
-            }
-        }
-    }
+    table_rows::nb_steps(table, sb, index, out)
 }
 
 // The place of a subband's row that has these steps.
@@ -67,20 +42,7 @@ pub extern "C" fn folgrist_allocation_index(table: u8, sb: u64, steps: u32, out:
           (indexFound sb steps))
         (now (out .entry)) r (now (out .exit)) ⌝ }
 {
-    let given = arguments::table_given(out.len() < 1, table);
-    match given {
-        TableGiven::Refused(number) => number,
-        TableGiven::Meant(t) => {
-            let found = t.allocation_index(sb as usize, steps);
-            match found {
-                OptionU32::Some(index) => {
-                    out[0] = index;
-                    0
-                }
-                OptionU32::None => 97,
-            }
-        }
-    }
+    table_rows::allocation_index(table, sb, steps, out)
 }
 
 // The class of quantization of a number of steps.
@@ -97,15 +59,7 @@ pub extern "C" fn folgrist_class_of_quantization(steps: u32, cd: &mut [f64], out
           classFigures)
         (now (out .entry)) r (now (out .exit)) ⌝ }
 {
-    if (cd.len() < 2) | (out.len() < 4) {
-        return 98;
-    }
-    let found = quantization::class_of_quantization(steps);
-    cd[0] = parts::coefficient_c(found);
-    cd[1] = parts::coefficient_d(found);
-    let figures = parts::figures(found);
-    writing::put(&figures, out);
-    parts::class_number(found)
+    table_rows::class_of_quantization(steps, cd, out)
 }
 
 // The bits of a subband's 36 samples.
@@ -125,10 +79,5 @@ pub extern "C" fn folgrist_snr_db(steps: u32, out: &mut [f64]) -> u32
           snrFound)
         (now (out .entry)) r (now (out .exit)) ⌝ }
 {
-    if out.len() < 1 {
-        return 98;
-    }
-    let found = encoder_bit_demand::snr_db(steps);
-    out[0] = parts::snr_db(found);
-    parts::snr_number(found)
+    table_rows::snr_db(steps, out)
 }
