@@ -1,5 +1,4 @@
 -- `table_selection::free_format_table` meets its contract: antt computes the headings' table at the three frequencies, and there is none elsewhere.
-use mathlib.Core.Path.{refl}
 use mathlib.Core.Logic.{⊎-elim, inl, inr}
 use Rattle.table_selection.specs.Select.{tableAt}
 use Rattle.table_selection.proofs.SelectLaws.{off-three}

@@ -1,5 +1,5 @@
 -- `bitalloc::BitAllocTable::allocation_index` meets its contract. The loop's invariant: no place that was passed has the steps.
-use Prim.Native.Nat.{ℕ, _+_, _-_, _*_, _≤_, _<_}
+use Prim.Native.Nat.{ℕ, _-_, _≤_, _<_}
 use mathlib.Core.Path.{_≡_}
 use native.Mathlib.Omega.{arith}
 use lib.ListN.{getD}
