@@ -1,13 +1,19 @@
 // Replays answers of another implementation, which it reads from standard input, one to a line: calls the library with
 // the same arguments, compares, and prints for each kind how many lines agreed. A line is numbers with a space between
 // them: the kind, the arguments, the expected answers. A line that begins with # is a comment.
+mod answers;
+mod arguments;
+mod budget_kinds;
 mod kinds;
+mod lines;
+mod sample_kinds;
+mod scalefactor_kinds;
+mod table_kinds;
 
+use lines::Ended;
+use lines::Line;
 use replay_answers::Verdict;
-use replay_lines::counts::count_line;
-use replay_lines::lines::Ended;
-use replay_lines::lines::Line;
-use replay_lines::prints;
+ghost use Prim.Native.Nat.{_<_};
 
 // What a turn of reading leaves: the line that it stopped in, and whether there may be more.
 struct Turn {
@@ -23,8 +29,8 @@ fn main() {
     // The number of the first line that did not agree or could not be read, or 0.
     let mut first: u64 = 0;
     read_all(&mut numbers, &mut seen, &mut agreed, &mut first);
-    prints::print_kinds(&seen, &agreed);
-    prints::print_rest(seen[0], first);
+    print_kinds(&seen, &agreed);
+    print_rest(seen[0], first);
 }
 
 // A proved loop has to end, and nothing says that the input does: so the turns are counted down from a number that no
@@ -114,5 +120,73 @@ fn end_line(
             let verdict = kinds::replay(count, numbers);
             count_line(numbers[0], verdict, line.number, seen, agreed, first);
         }
+    }
+}
+
+fn count_line(
+    kind: u64,
+    verdict: Verdict,
+    number: u64,
+    seen: &mut [u64; 33],
+    agreed: &mut [u64; 33],
+    first: &mut u64,
+) {
+    let at = place(kind);
+    match verdict {
+        Verdict::Agree => {
+            seen[at] = lines::one_more(seen[at]);
+            agreed[at] = lines::one_more(agreed[at]);
+        }
+        Verdict::Differ => {
+            seen[at] = lines::one_more(seen[at]);
+            note_first(number, first);
+        }
+        Verdict::Unread => {
+            seen[0] = lines::one_more(seen[0]);
+            note_first(number, first);
+        }
+    }
+}
+
+// Where a kind is counted.
+fn place(kind: u64) -> usize
+    ensures { λ r. ⌜ r < 33 ⌝ }
+{
+    if kind < 33 { kind as usize } else { 0 }
+}
+
+fn note_first(number: u64, first: &mut u64) {
+    if *first == 0 {
+        *first = number;
+    }
+}
+
+fn print_kinds(seen: &[u64; 33], agreed: &[u64; 33]) {
+    let mut kind: usize = 1;
+    while kind < 33 {
+        if !kinds::print_name(kind) {
+            return;
+        }
+        print_count(agreed[kind], seen[kind]);
+        kind = kind + 1;
+    }
+}
+
+fn print_count(agreed: u64, seen: u64) {
+    io::write_all(1, b": ");
+    io::print_decimal(1, agreed);
+    io::write_all(1, b" of ");
+    io::print_decimal(1, seen);
+    io::write_all(1, b" agree\n");
+}
+
+fn print_rest(unread: u64, first: u64) {
+    io::write_all(1, b"unread: ");
+    io::print_decimal(1, unread);
+    io::write_all(1, b"\n");
+    if first != 0 {
+        io::write_all(1, b"first at line ");
+        io::print_decimal(1, first);
+        io::write_all(1, b"\n");
     }
 }
