@@ -32,10 +32,10 @@ static const char *answer_text(uint32_t number)
     case FOLGRIST_ACCEPTED: return "accepted";
     case FOLGRIST_NO_TABLE: return "no allocation table covers the header's rates";
     case FOLGRIST_ZERO_SAMPLE_RATE: return "the sample rate is 0";
-    case FOLGRIST_FRAME_TOO_LARGE: return "the frame is too large";
     case FOLGRIST_INSUFFICIENT_FRAME: return "the fixed and ancillary bits are more than the frame has";
     case FOLGRIST_NO_CLASS: return "no class of quantization has so many steps";
     case FOLGRIST_BAD_ARGUMENT: return "an argument is out of its range";
+    case FOLGRIST_RATE_OFF_LADDER: return "the bit rate is not one that the header can name";
     case FOLGRIST_NOTHING_THERE: return "there is nothing at that place";
     case FOLGRIST_SHORT_SLICE: return "an array is too short";
     default: return "an unknown answer";

@@ -14,10 +14,10 @@ import sys
 ANSWERS = {
     1: "no allocation table covers the header's rates",
     2: "the sample rate is 0",
-    3: "the frame is too large",
     4: "the fixed and ancillary bits are more than the frame has",
     5: "no class of quantization has so many steps",
     14: "an argument is out of its range",
+    16: "the bit rate is not one that the header can name",
     97: "there is nothing at that place",
     98: "an array is too short",
 }

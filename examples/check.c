@@ -180,12 +180,21 @@ static struct arguments mono(void)
     return a;
 }
 
-/* 44100 Hz, stereo, 193000 bit/s: no table. */
+/* 44100 Hz, stereo, 193000 bit/s: off the ladder, and no table. */
 static struct arguments odd(void)
 {
     struct arguments a = stereo();
 
     a.bit_rate = 193000;
+    return a;
+}
+
+/* 44100 Hz, stereo, 80000 bit/s: on the ladder, and no table. */
+static struct arguments untabled(void)
+{
+    struct arguments a = stereo();
+
+    a.bit_rate = 80000;
     return a;
 }
 
@@ -199,7 +208,7 @@ static struct arguments no_rate(void)
     return a;
 }
 
-/* LSF, 1 Hz: 144 * (2^32 - 1) bytes. */
+/* LSF, 1 Hz: off the ladder, 144 * (2^32 - 1) bytes. */
 static struct arguments large(void)
 {
     struct arguments a = mono();
@@ -228,15 +237,19 @@ static void expect_bad_headers(const struct function *f)
         expect(f, &bad[i], FOLGRIST_BAD_ARGUMENT, NULL, NULL);
 }
 
-/* The headers that questions 1 to 3 refuse, beside zeros. */
+/* The headers that questions 16, 1 and 2 refuse, beside zeros; 16 also where the sample rate is 0. */
 static void expect_refused_headers(const struct function *f)
 {
     static const uint32_t zeros[64] = {0};
-    const struct arguments a = odd(), b = no_rate(), c = large();
+    const struct arguments a = untabled(), b = no_rate(), c = odd(), d = large();
+    struct arguments e = no_rate();
 
     expect(f, &a, FOLGRIST_NO_TABLE, zeros, zeros);
     expect(f, &b, FOLGRIST_ZERO_SAMPLE_RATE, zeros, zeros);
-    expect(f, &c, FOLGRIST_FRAME_TOO_LARGE, zeros, zeros);
+    expect(f, &c, FOLGRIST_RATE_OFF_LADDER, zeros, zeros);
+    expect(f, &d, FOLGRIST_RATE_OFF_LADDER, zeros, zeros);
+    e.bit_rate = 33000;
+    expect(f, &e, FOLGRIST_RATE_OFF_LADDER, zeros, zeros);
 }
 
 static void read_only_zeros(void)

@@ -14,18 +14,22 @@
  * aligned and valid for the length given, and an array that is written may not overlap another. The pointer may not be null, even of length 0.
  *
  * Order. FOLGRIST_SHORT_SLICE is asked first, then FOLGRIST_BAD_ARGUMENT, then FOLGRIST_NOTHING_THERE; with these three nothing is written.
+ * Then FOLGRIST_RATE_OFF_LADDER, and then the others by their numbers.
  * With any other number everything is written: beside a number that is not 0 stand zeros, but for what the comment says.
  *
  * Header. Seven arguments, the same in each function that has them:
  *   lsf             0, or 1 for the low sampling frequencies of ISO/IEC 13818-3
  *   bit_rate        in bit/s; 0 is free format, whose frame counts as 0 bytes (1 with padding), so that folgrist_allocate_bits answers 4
- *                   wherever there is a table and the sample rate is not 0
+ *                   wherever there is a table and the sample rate is not 0. Any other that is not on the header's ladder, 1000 times one of
+ *                   32, 48, 56, 64, 80, 96, 112, 128, 160, 192, 224, 256, 320, 384 or, with lsf 1, of
+ *                   8, 16, 24, 32, 40, 48, 56, 64, 80, 96, 112, 128, 144, 160, is answered FOLGRIST_RATE_OFF_LADDER; but
+ *                   folgrist_select_table and folgrist_frame_size_bytes take any
  *   sample_rate     in Hz
  *   padding         0, or 1 for one more byte
  *   protection_bit  as on the wire: 0 where a CRC follows the header, 1 where none does
  *   mode            enum folgrist_mode
  *   mode_extension  enum folgrist_mode_extension; read in joint stereo only, but checked in every mode
- * Any rates are taken. A flag above 1, a mode or an extension above 3 is answered FOLGRIST_BAD_ARGUMENT.
+ * No rate is a bad argument. A flag above 1, a mode or an extension above 3 is answered FOLGRIST_BAD_ARGUMENT.
  *
  * Slots. A slot is one channel of one subband, numbered 32 * channel + subband: 64 slots, those of channel 0 first.
  */
@@ -39,9 +43,10 @@
 extern "C" {
 #endif
 
-/* The version of what is declared here; folgrist_version() has that of the archive. A change of a signature raises the minor number. */
+/* The version of what is declared here; folgrist_version() has that of the archive. A change of a signature or of an answer raises the
+ * minor number. 1.1: FOLGRIST_RATE_OFF_LADDER. */
 #define FOLGRIST_VERSION_MAJOR 1
-#define FOLGRIST_VERSION_MINOR 0
+#define FOLGRIST_VERSION_MINOR 1
 #define FOLGRIST_VERSION_PATCH 0
 
 /* The numbers of answers. */
@@ -49,10 +54,11 @@ enum folgrist_answer {
     FOLGRIST_ACCEPTED = 0,
     FOLGRIST_NO_TABLE = 1,           /* no allocation table covers the header's rates */
     FOLGRIST_ZERO_SAMPLE_RATE = 2,   /* the sample rate is 0 */
-    FOLGRIST_FRAME_TOO_LARGE = 3,    /* the bits of the frame do not fit 32 bits */
+    FOLGRIST_FRAME_TOO_LARGE = 3,    /* never given since 1.1: at a rate on the ladder the frame's bits fit 32 bits */
     FOLGRIST_INSUFFICIENT_FRAME = 4, /* the fixed bits and the caller's are more than the frame has */
     FOLGRIST_NO_CLASS = 5,           /* the steps are none of the seventeen classes of quantization */
     FOLGRIST_BAD_ARGUMENT = 14,      /* a flag above 1, a mode or extension above 3, a table above 4 */
+    FOLGRIST_RATE_OFF_LADDER = 16,   /* the bit rate is neither 0 nor on the header's ladder */
     FOLGRIST_NOTHING_THERE = 97,     /* a place outside the row, or steps that the row does not have */
     FOLGRIST_SHORT_SLICE = 98        /* an array is shorter than the function asks */
 };
@@ -107,19 +113,19 @@ uint32_t folgrist_frame_size_bytes(uint8_t lsf, uint32_t bit_rate, uint32_t samp
 /* The bits of the frame that are spent before any sample is coded. out, 8 elements: the bits of the frame (cb), of the header (bhdr), of the
  * CRC (bcrc) and of the allocation fields (bbal); the number of subbands carried (sblimit); the subband from which on one allocation field
  * serves both channels (bound); the number of channels; the table.
- * Answers 0, 1, 2, 3, 14, 98. */
+ * Answers 0, 1, 2, 14, 16, 98. */
 uint32_t folgrist_fixed_bit_budget(uint8_t lsf, uint32_t bit_rate, uint32_t sample_rate, uint8_t padding, uint8_t protection_bit,
                                    uint8_t mode, uint8_t mode_extension, uint32_t *out, size_t out_len);
 
 /* The bits that the frame offers to samples and scalefactors beside banc ancillary bits. out, 1 element: bits, which may be below 0.
- * Answers 0, 1, 2, 3, 14, 98. */
+ * Answers 0, 1, 2, 14, 16, 98. */
 uint32_t folgrist_available_data_bits(uint8_t lsf, uint32_t bit_rate, uint32_t sample_rate, uint8_t padding, uint8_t protection_bit,
                                       uint8_t mode, uint8_t mode_extension, uint32_t banc, int64_t *out, size_t out_len);
 
 /* The bits with which every allocation field has a mask-to-noise ratio of at least 0 dB or stands at its top place. smr_db, 64 elements by
  * slot: signal-to-mask ratios in dB; those of subbands and channels that the frame does not carry are not read. A field that serves both
  * channels goes by the larger ratio, where a NaN beside a number yields the number; a NaN needs the top place. out, 1 element: bits.
- * Answers 0, 1, 2, 3, 14, 98. */
+ * Answers 0, 1, 2, 14, 16, 98. */
 uint32_t folgrist_demand_bits(uint8_t lsf, uint32_t bit_rate, uint32_t sample_rate, uint8_t padding, uint8_t protection_bit, uint8_t mode,
                               uint8_t mode_extension, const double *smr_db, size_t smr_db_len, uint64_t *out, size_t out_len);
 
@@ -127,7 +133,7 @@ uint32_t folgrist_demand_bits(uint8_t lsf, uint32_t bit_rate, uint32_t sample_ra
  * steps, 0 where nothing is allocated; from the bound on both channels have those of their shared field. A field's first step is charged 20
  * bits for each channel that it serves besides its samples: scfsi and three scalefactors. out, 4 elements: the bits left; and beside number 4
  * the bits of the frame, the fixed ones and banc, which are 0 beside every other number.
- * Answers 0, 1, 2, 3, 4, 14, 98. */
+ * Answers 0, 1, 2, 4, 14, 16, 98. */
 uint32_t folgrist_allocate_bits(uint8_t lsf, uint32_t bit_rate, uint32_t sample_rate, uint8_t padding, uint8_t protection_bit, uint8_t mode,
                                 uint8_t mode_extension, uint32_t banc, const double *smr_db, size_t smr_db_len, uint32_t *steps,
                                 size_t steps_len, uint32_t *out, size_t out_len);

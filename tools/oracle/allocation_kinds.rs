@@ -1,15 +1,15 @@
 //! Allocations, and the bits that would be enough for one.
 
 use crate::budget_kinds::{
-    REFUSED, SMALL, critical_bancs, draw_banc, largest_banc, offered, with_banc,
+    critical_bancs, draw_banc, largest_banc, offered, some_off_ladder, with_banc,
 };
 use crate::doubles::about;
 use crate::heads::{Head, MODE, PROTECTION_BIT, header_of};
 use crate::kind::{Asker, Kind, stop};
+use crate::ladder::asked_on_ladder;
 use crate::ratios::{SLOTS, SUBBANDS, table_ratios};
-use crate::served::{
-    SINGLE, absurd, any_pattern, budget_of, draw, is_asked, layouts, ratios_for, unserved,
-};
+use crate::served::{SINGLE, absurd, any_pattern, budget_of, draw, layouts, ratios_for, unserved};
+use crate::worked::{FREE, REFUSED, SMALL};
 use reference::audio_data::AudioData;
 use reference::encoder_bit_allocator::{
     BitAllocError, FixedBitBudget, SmrTable, allocate_bits, demand_bits, sample_bits_for,
@@ -20,10 +20,10 @@ pub const KINDS: [Kind; 2] = [
         number: 28,
         name: "demand_bits",
         form: "H and 64 doubles, channel 0 first -> number bits (0 when refused; as kind 26)",
-        answer: answer_demand,
+        answer: |a| asked_on_ladder(a, 2, answer_demand),
         halted: Some(&[2, 0]),
         ask: ask_demands,
-        one_in: 200,
+        one_in: 375,
     },
     Kind {
         number: 29,
@@ -31,10 +31,10 @@ pub const KINDS: [Kind; 2] = [
         form: "H banc and 64 doubles -> number left cb fixed banc and 64 steps, channel 0 first \
                (4: InsufficientFrameSize with cb, fixed, banc; the other numbers as kind 26; left \
                is computed from the steps; not asked where fixed + banc wraps)",
-        answer: answer_allocation,
+        answer: |a| asked_on_ladder(a, ANSWERS, answer_allocation),
         halted: Some(&HALTED),
         ask: ask_allocations,
-        one_in: 200,
+        one_in: 300,
     },
 ];
 
@@ -50,7 +50,7 @@ const HALTED: [u64; ANSWERS] = {
 /// What a first step costs for each channel that it serves, besides its samples.
 const FIRST_STEP_BITS: u64 = 20;
 
-const RANDOM_LINES: usize = 29_000;
+const RANDOM_LINES: usize = 36_000;
 
 pub fn ratios_of(a: &[u64]) -> SmrTable {
     std::array::from_fn(|ch| std::array::from_fn(|sb| f64::from_bits(a[SUBBANDS * ch + sb])))
@@ -115,9 +115,7 @@ pub fn charged(budget: &FixedBitBudget, data: &AudioData) -> u64 {
 
 fn ask_demand(asker: &mut Asker, edge: bool, head: &Head, pattern: usize) {
     let ratios = ratios_for(head, pattern, &mut asker.random);
-    if is_asked(head) {
-        asker.ask(edge, &[&head[..], &ratios].concat());
-    }
+    asker.ask(edge, &[&head[..], &ratios].concat());
 }
 
 fn note_demands(asker: &mut Asker) {
@@ -141,7 +139,8 @@ fn ask_demands(asker: &mut Asker) {
     }
     ask_table_demands(asker);
     let random = &mut asker.random;
-    for head in [absurd(random), unserved(random)].concat() {
+    let heads = [absurd(random), unserved(random), some_off_ladder(random)];
+    for head in heads.concat() {
         let pattern = any_pattern(&mut asker.random);
         ask_demand(asker, true, &head, pattern);
     }
@@ -169,11 +168,9 @@ fn ask_table_demands(asker: &mut Asker) {
 /// Asks at banc, or at the largest that the domain allows.
 fn ask_allocation(asker: &mut Asker, edge: bool, head: &Head, banc: u64, pattern: usize) {
     let ratios = ratios_for(head, pattern, &mut asker.random);
-    if is_asked(head) {
-        let mut arguments = with_banc(head, banc.min(largest_banc(head)));
-        arguments.extend(ratios);
-        asker.ask(edge, &arguments);
-    }
+    let mut arguments = with_banc(head, banc.min(largest_banc(head)));
+    arguments.extend(ratios);
+    asker.ask(edge, &arguments);
 }
 
 fn note_allocations(asker: &mut Asker) {
@@ -196,6 +193,11 @@ fn note_allocations(asker: &mut Asker) {
             630,
         ),
         ("the same without CRC, banc 631: all steps 0", open, 631),
+        (
+            "48000 Hz, single, free format: answer 4 with 0, 120, 0",
+            FREE,
+            0,
+        ),
     ];
     let refused = REFUSED.map(|(words, head)| (words, head, 0));
     for (words, head, banc) in known.into_iter().chain(refused) {
@@ -233,7 +235,8 @@ fn ask_allocations(asker: &mut Asker) {
             ask_allocation(asker, true, &head, banc, pattern);
         }
     }
-    for head in unserved(&mut asker.random) {
+    let random = &mut asker.random;
+    for head in [unserved(random), some_off_ladder(random)].concat() {
         let banc = draw_banc(&head, &mut asker.random);
         let pattern = any_pattern(&mut asker.random);
         ask_allocation(asker, true, &head, banc, pattern);

@@ -2,31 +2,33 @@
 
 use crate::heads::*;
 use crate::kind::{Asker, Kind, sorted};
+use crate::ladder::{asked_on_ladder, ladder};
 use crate::random::Random;
-use crate::served::{absurd, budget_of, draw, is_asked, layouts, unserved};
+use crate::served::{absurd, budget_of, draw, draw_any, layouts, off_ladder, unserved};
 use crate::table_kinds::{number_of, table_of};
+use crate::worked::{ACCEPTED, FREE, REFUSED, SMALL, STEREO};
 use reference::encoder_bit_allocator::{FixedBitBudget, available_data_bits, fixed_bit_budget};
 
 pub const KINDS: [Kind; 3] = [
     Kind {
         number: 26,
         name: "fixed_bit_budget",
-        form: "H -> number cb bhdr bcrc bbal sblimit bound channels table (1: NoBitallocTable; \
-               2: the Rust halts; with either all else is 0; frames above 536870911 bytes, which \
-               wrap, are not asked)",
-        answer: answer_budget,
+        form: "H -> number cb bhdr bcrc bbal sblimit bound channels table (16: the bit rate is \
+               neither 0 nor on the header's ladder, and the Rust is not asked; 1: \
+               NoBitallocTable; 2: the Rust halts; with each of them all else is 0)",
+        answer: |a| asked_on_ladder(a, 9, answer_budget),
         halted: Some(&[2, 0, 0, 0, 0, 0, 0, 0, 0]),
         ask: ask_budgets,
-        one_in: 1500,
+        one_in: 2000,
     },
     Kind {
         number: 27,
         name: "available_data_bits",
         form: "H banc -> number bits (64 bits in two's complement, 0 when refused; as kind 26)",
-        answer: answer_available,
+        answer: |a| asked_on_ladder(a, 2, answer_available),
         halted: Some(&[2, 0]),
         ask: ask_available,
-        one_in: 800,
+        one_in: 1000,
     },
     Kind {
         number: 32,
@@ -40,29 +42,9 @@ pub const KINDS: [Kind; 3] = [
     },
 ];
 
-/// 48000, single, 32000 bit/s, CRC, no padding.
-pub const SMALL: Head = [0, 32_000, 48_000, 0, 0, 3, 0];
-
-/// Refused headers that were worked out by hand.
-pub const REFUSED: [(&str, Head); 3] = [
-    (
-        "44100 Hz, stereo, 193000 bit/s: answer 1",
-        [0, 193_000, 44_100, 0, 1, 0, 0],
-    ),
-    (
-        "sample rate 0, 32000 bit/s, with LSF: answer 2",
-        [1, 32_000, 0, 0, 1, 3, 0],
-    ),
-    (
-        "sample rate 0, 32000 bit/s, without LSF: answer 1",
-        [0, 32_000, 0, 0, 1, 3, 0],
-    ),
-];
-
-const STEREO: Head = [0, 192_000, 44_100, 0, 1, 0, 0];
-
 const RANDOM_HEADERS: usize = 100_000;
 
+/// The Rust's answers, where the bit rate is on the ladder.
 pub fn answer_budget(a: &[u64]) -> Vec<u64> {
     match fixed_bit_budget(&header_of(a)) {
         Err(_) => vec![1, 0, 0, 0, 0, 0, 0, 0, 0],
@@ -120,31 +102,8 @@ pub fn draw_banc(head: &[u64], random: &mut Random) -> u64 {
     banc.min(largest_banc(head))
 }
 
-fn ask_where_defined(asker: &mut Asker, edge: bool, heads: Vec<Head>) {
-    for head in heads {
-        if is_asked(&head) {
-            asker.ask(edge, &head);
-        }
-    }
-}
-
 fn note_budgets(asker: &mut Asker) {
-    let mut joint = STEREO;
-    joint[MODE] = 1;
-    let rounded = [0, 64_999, 48_000, 0, 1, 3, 0];
-    let known = [
-        (
-            "48000 Hz, single, 32000 bit/s, CRC, no padding: B2c, cb 768, fixed 74",
-            SMALL,
-        ),
-        (
-            "44100 Hz, stereo, 192000 bit/s, no CRC or padding: B2b, 626 bytes, fixed 220",
-            STEREO,
-        ),
-        ("the same in joint stereo with bound 4: fixed 142", joint),
-        ("48000 Hz, single, 64999 bit/s: B2a, 194 bytes", rounded),
-    ];
-    for (words, head) in known.into_iter().chain(REFUSED) {
+    for (words, head) in ACCEPTED.into_iter().chain(REFUSED) {
         asker.by_hand(words, &head);
     }
 }
@@ -156,16 +115,16 @@ fn ask_budgets(asker: &mut Asker) {
         let modes = Choice::default().with(LSF, lsf).with(MODE, &MODES);
         modes.with(BIT_RATE, bits).with(SAMPLE_RATE, samples)
     };
-    let mut edges = choice(&[0], &edge_bit_rates(), &HIGH_SAMPLE_RATES).heads(random);
-    edges.extend(choice(&[1], &[0, 8_000, 160_000, 193_000], &LOW_SAMPLE_RATES).heads(random));
+    let named = |lsf: u64| [&[0], ladder(lsf)].concat();
+    let mut edges = choice(&[0], &named(0), &HIGH_SAMPLE_RATES).heads(random);
+    edges.extend(choice(&[1], &named(1), &[16_000, 24_000]).heads(random));
     edges.extend(layouts(random).into_iter().flat_map(every_flag));
-    edges.extend(absurd(random));
-    edges.extend(unserved(random));
+    edges.extend([absurd(random), unserved(random), off_ladder(random)].concat());
     let mut others = choice(&FLAGS, &bit_rates(), &sample_rates()).heads(random);
-    others.extend(random_heads(RANDOM_HEADERS, random));
+    others.extend((0..RANDOM_HEADERS).map(|_| draw_any(random)));
     others.extend((0..RANDOM_HEADERS).map(|_| draw(random)));
-    ask_where_defined(asker, true, edges);
-    ask_where_defined(asker, false, others);
+    edges.iter().for_each(|head| asker.ask(true, head));
+    others.iter().for_each(|head| asker.ask(false, head));
 }
 
 /// The header with padding and CRC both ways.
@@ -191,6 +150,11 @@ fn note_available(asker: &mut Asker) {
             694,
         ),
         ("the same with banc 695: one bit too few", SMALL, 695),
+        (
+            "48000 Hz, single, free format, banc 0: 120 bits too few",
+            FREE,
+            0,
+        ),
     ];
     let refused = REFUSED.map(|(words, head)| (words, head, 0));
     for (words, head, banc) in known.into_iter().chain(refused) {
@@ -205,32 +169,36 @@ pub fn with_banc(head: &Head, banc: u64) -> Vec<u64> {
 fn ask_available(asker: &mut Asker) {
     note_available(asker);
     let random = &mut asker.random;
-    let heads = [layouts(random), absurd(random), unserved(random)].concat();
-    for head in heads.iter().filter(|head| is_asked(&head[..])) {
-        let mut bancs = critical_bancs(head);
-        let largest = largest_banc(head);
+    for head in [layouts(random), absurd(random), unserved(random)].concat() {
+        let mut bancs = critical_bancs(&head);
+        let largest = largest_banc(&head);
         bancs.extend([0, 1, largest, 1 << 31, u32::MAX.into()]);
         bancs.extend((largest < u32::MAX.into()).then_some(largest + 1));
         for banc in sorted(bancs) {
-            asker.ask(true, &with_banc(head, banc));
+            asker.ask(true, &with_banc(&head, banc));
         }
+    }
+    for head in some_off_ladder(&mut asker.random) {
+        let banc = asker.random.word();
+        asker.ask(true, &with_banc(&head, banc));
     }
     for at in 0..2 * RANDOM_HEADERS {
         let random = &mut asker.random;
-        let head = if at % 2 == 0 {
-            draw(random)
-        } else {
-            random_heads(1, random)[0]
+        let head = match at % 2 {
+            0 => draw(random),
+            _ => draw_any(random),
         };
-        let banc = if random.one_in(4) {
-            random.word()
-        } else {
-            draw_banc(&head, random)
+        let banc = match random.below(4) {
+            0 => random.word(),
+            _ => draw_banc(&head, random),
         };
-        if is_asked(&head) {
-            asker.ask(false, &with_banc(&head, banc));
-        }
+        asker.ask(false, &with_banc(&head, banc));
     }
+}
+
+/// One in four of the headers off the ladder.
+pub fn some_off_ladder(random: &mut Random) -> Vec<Head> {
+    off_ladder(random).into_iter().step_by(4).collect()
 }
 
 /// The budget of the eight numbers of kind 32.

@@ -73,6 +73,12 @@ pub const KINDS: [Kind; 7] = [
 
 const RANDOM_HEADERS: usize = 200_000;
 
+/// Rates off the ladder, which these functions take: in stereo, then in single channel.
+const OFF_LADDER: [Head; 2] = [
+    [0, 193_000, 44_100, 0, 1, 0, 0],
+    [0, 64_999, 48_000, 0, 1, 3, 0],
+];
+
 /// Asks every combination; they are edges.
 fn edges(asker: &mut Asker, choice: Choice) {
     for head in choice.heads(&mut asker.random) {
@@ -103,6 +109,9 @@ fn ask_free_format(asker: &mut Asker) {
 }
 
 fn ask_frame_size(asker: &mut Asker) {
+    let [stereo, single] = OFF_LADDER;
+    asker.by_hand("44100 Hz, 193000 bit/s: 630 bytes", &stereo);
+    asker.by_hand("48000 Hz, 64999 bit/s: 194 bytes", &single);
     let choice = |bits: &[u64], samples: &[u64]| {
         let padded = Choice::default().with(PADDING, &FLAGS);
         padded.with(BIT_RATE, bits).with(SAMPLE_RATE, samples)
@@ -123,6 +132,9 @@ fn ask_per_channel(asker: &mut Asker) {
 }
 
 fn ask_select_table(asker: &mut Asker) {
+    let [stereo, single] = OFF_LADDER;
+    asker.by_hand("44100 Hz, stereo, 193000 bit/s: none", &stereo);
+    asker.by_hand("48000 Hz, single, 64999 bit/s: B2a", &single);
     let choice = |lsf: &[u64], bits: &[u64], samples: &[u64]| {
         let modes = Choice::default().with(LSF, lsf).with(MODE, &MODES);
         modes.with(BIT_RATE, bits).with(SAMPLE_RATE, samples)

@@ -1,6 +1,7 @@
 //! H, the seven numbers of a header, and the headers that several kinds are asked.
 
 use crate::kind::sorted;
+use crate::ladder::ladder;
 use crate::random::Random;
 use reference::header::{Emphasis, FrameHeader, Mode, ModeExtension};
 use std::sync::LazyLock;
@@ -24,14 +25,9 @@ pub const EXTENSIONS: [u64; 4] = [0, 1, 2, 3];
 pub const HIGH_SAMPLE_RATES: [u64; 3] = [32_000, 44_100, 48_000];
 pub const LOW_SAMPLE_RATES: [u64; 3] = [16_000, 22_050, 24_000];
 
-/// Both ladders, in kbit/s.
-const LADDERS: [u64; 19] = [
-    8, 16, 24, 32, 40, 48, 56, 64, 80, 96, 112, 128, 144, 160, 192, 224, 256, 320, 384,
-];
-
 const TOP: u64 = u32::MAX as u64;
 
-/// Bit rates off the ladders.
+/// Free format, and bit rates off the ladders.
 const ODD_BIT_RATES: [u64; 9] = [0, 1, 500, 999, 1000, 64_999, 193_000, 1 << 31, TOP];
 
 pub fn mode_of(number: u64) -> Mode {
@@ -71,10 +67,13 @@ pub fn header_of(a: &[u64]) -> FrameHeader {
     }
 }
 
+/// The rates of both ladders.
+static BOTH_LADDERS: LazyLock<Vec<u64>> = LazyLock::new(|| sorted(FLAGS.map(ladder).concat()));
+
 /// The ladders with what lies about each rate, and the odd ones.
 pub fn bit_rates() -> Vec<u64> {
     let mut rates = ODD_BIT_RATES.to_vec();
-    for rate in LADDERS.map(|kilobits| 1000 * kilobits) {
+    for &rate in BOTH_LADDERS.iter() {
         rates.extend([rate, rate - 1, rate + 1, rate - 999, rate + 999]);
         rates.extend([rate + 1000, 2 * rate]);
     }
@@ -84,7 +83,7 @@ pub fn bit_rates() -> Vec<u64> {
 /// The ladders, the odd ones, and what lies about a rate or two.
 pub fn edge_bit_rates() -> Vec<u64> {
     let mut rates = ODD_BIT_RATES.to_vec();
-    rates.extend(LADDERS.map(|kilobits| 1000 * kilobits));
+    rates.extend(BOTH_LADDERS.iter());
     rates.extend([31_999, 32_001, 63_001, 65_000, 192_999, 384_999, 768_000]);
     sorted(rates)
 }
@@ -152,7 +151,7 @@ impl<'a> Drawing<'a> {
 
     fn bit_rate(&mut self) -> u64 {
         match self.random.below(6) {
-            0 | 1 => 1000 * self.random.pick(&LADDERS),
+            0 | 1 => self.random.pick(&BOTH_LADDERS),
             2 => self.random.pick(&BIT_RATES),
             3 => self.random.below(400_000),
             4 => 1000 * self.random.below(400),

@@ -1,15 +1,13 @@
 //! Headers that reach an allocation, beside some that do not.
 
 use crate::heads::*;
+use crate::ladder::*;
 use crate::random::Random;
 use crate::ratios::{PATTERNS, Ratios, disturb};
-use reference::bitalloc::select_table;
 use reference::encoder_bit_allocator::{FixedBitBudget, fixed_bit_budget};
 
-/// The bits of a larger frame do not fit 32 bits: the Rust wraps.
-pub const LARGEST_FRAME: u64 = 536_870_911;
-
-/// lsf, kilobits per channel and sample rate: B2a, B2b, B2c, B2d and B1Lsf in turn.
+/// lsf, kilobits (with LSF of the frame, else of a channel) and sample rate: B2a, B2b, B2c, B2d and
+/// B1Lsf in turn.
 const RATES: [[u64; 3]; 12] = [
     [0, 56, 48_000],
     [0, 192, 48_000],
@@ -20,42 +18,44 @@ const RATES: [[u64; 3]; 12] = [
     [0, 48, 44_100],
     [0, 32, 32_000],
     [0, 48, 32_000],
-    [1, 4, 22_050],
-    [1, 32, 24_000],
-    [1, 80, 16_000],
+    [1, 8, 22_050],
+    [1, 64, 24_000],
+    [1, 160, 16_000],
 ];
 
 /// The kilobits per channel that have tables at every rate of ISO/IEC 11172-3.
 const KILOBITS: [u64; 10] = [32, 48, 56, 64, 80, 96, 112, 128, 160, 192];
 
-const LSF_KILOBITS: [u64; 14] = [8, 16, 24, 32, 40, 48, 56, 64, 80, 96, 112, 128, 144, 160];
+/// The largest bit rate with LSF.
+const FASTEST: u64 = 160_000;
 
-/// With LSF and this sample rate, the bit rate is the frame's bytes.
-const BYTES_RATE: u64 = 144;
+const TOP: u64 = u32::MAX as u64;
 
 const JOINT: u64 = 1;
 pub const SINGLE: u64 = 3;
 
-/// Whether the header may be asked for a budget, so that nothing wraps.
-pub fn is_asked(head: &[u64]) -> bool {
-    let header = header_of(head);
-    select_table(&header).is_none()
-        || header.sample_rate == 0
-        || header.frame_size_bytes() as u64 <= LARGEST_FRAME
-}
-
-/// The budget, or nothing where the Rust refuses, halts or wraps.
+/// The budget, or nothing off the ladder and where the Rust refuses or halts.
 pub fn budget_of(head: &[u64]) -> Option<FixedBitBudget> {
     let header = header_of(head);
-    if header.sample_rate == 0 || !is_asked(head) {
+    if !on_ladder(head) || header.sample_rate == 0 {
         return None;
     }
     fixed_bit_budget(&header).ok()
 }
 
-/// The bit rate for so many kilobits per channel.
-fn both_channels(kilobits: u64, mode: u64) -> u64 {
-    1000 * kilobits * if mode == SINGLE { 1 } else { 2 }
+/// So many kilobits, with LSF of the frame, else of each channel.
+fn bits_per_second(lsf: u64, kilobits: u64, mode: u64) -> u64 {
+    let channels = if lsf == 1 || mode == SINGLE { 1 } else { 2 };
+    1000 * kilobits * channels
+}
+
+/// The sample rate at which a frame has so many bytes without padding, or nearly so many.
+fn sample_rate_for(bit_rate: u64, bytes: u64) -> u64 {
+    let bytes_at_1 = 144 * bit_rate;
+    match bytes {
+        0 => bytes_at_1 + 1,
+        _ => (bytes_at_1 / bytes).max(1),
+    }
 }
 
 fn with_flags(head: Head, random: &mut Random) -> Head {
@@ -70,7 +70,7 @@ pub fn layouts(random: &mut Random) -> Vec<Head> {
     let mut heads = Vec::new();
     for [lsf, kilobits, sample_rate] in RATES {
         for mode in MODES {
-            let bit_rate = both_channels(kilobits, mode);
+            let bit_rate = bits_per_second(lsf, kilobits, mode);
             let extensions = match mode {
                 JOINT => EXTENSIONS.to_vec(),
                 _ => vec![random.pick(&EXTENSIONS)],
@@ -84,31 +84,10 @@ pub fn layouts(random: &mut Random) -> Vec<Head> {
     heads
 }
 
-/// Frames that no standard has, from empty ones to the largest; those above it too.
-pub fn absurd(random: &mut Random) -> Vec<Head> {
-    let bytes = (LARGEST_FRAME - 2..=LARGEST_FRAME + 1).chain([0, 1, 12, 25, 43, 2_000, 19_999]);
-    let mut rates: Vec<[u64; 2]> = bytes.map(|bytes| [bytes, BYTES_RATE]).collect();
-    rates.extend([[1, 1], [100, 1], [3_728_270, 1], [3_728_271, 1]]);
-    rates.extend([[32_000, u32::MAX.into()], [u32::MAX.into(), 48_000]]);
+/// lsf, bit rate and sample rate in every mode.
+fn in_every_mode(rates: &[[u64; 3]], random: &mut Random) -> Vec<Head> {
     let mut heads = Vec::new();
-    for [bit_rate, sample_rate] in rates {
-        for mode in MODES {
-            let extension = random.pick(&EXTENSIONS);
-            let head = [1, bit_rate, sample_rate, 0, 0, mode, extension];
-            heads.push(with_flags(head, random));
-        }
-    }
-    heads
-}
-
-/// Free format, rates of no table, and sample rate 0.
-pub fn unserved(random: &mut Random) -> Vec<Head> {
-    let mut rates: Vec<[u64; 3]> = HIGH_SAMPLE_RATES.map(|rate| [0, 0, rate]).to_vec();
-    rates.extend([[0, 0, 22_050], [1, 0, 24_000], [0, 0, 0], [1, 0, 0]]);
-    rates.extend([[0, 193_000, 44_100], [0, 32_000, 0], [1, 32_000, 0]]);
-    rates.push([0, u32::MAX.into(), 1]);
-    let mut heads = Vec::new();
-    for [lsf, bit_rate, sample_rate] in rates {
+    for &[lsf, bit_rate, sample_rate] in rates {
         for mode in MODES {
             let extension = random.pick(&EXTENSIONS);
             let head = [lsf, bit_rate, sample_rate, 0, 0, mode, extension];
@@ -118,30 +97,97 @@ pub fn unserved(random: &mut Random) -> Vec<Head> {
     heads
 }
 
-/// One header: mostly served, often with a frame that no standard has.
-pub fn draw(random: &mut Random) -> Head {
+/// Frames that no standard has, from empty ones to the largest, by sample rates that none has.
+pub fn absurd(random: &mut Random) -> Vec<Head> {
+    let bytes = [0, 1, 12, 25, 43, 144, 2_000, 14_400, 19_999];
+    let sample_rates = bytes.map(|bytes| sample_rate_for(FASTEST, bytes));
+    let sample_rates = sample_rates.into_iter().chain([1, 2, 3]);
+    let mut rates: Vec<[u64; 3]> = sample_rates.map(|rate| [1, FASTEST, rate]).collect();
+    rates.extend([[1, 8_000, 1], [1, 32_000, TOP]]);
+    in_every_mode(&rates, random)
+}
+
+/// Free format, rates of no table, and sample rate 0; all on the ladder.
+pub fn unserved(random: &mut Random) -> Vec<Head> {
+    let mut rates: Vec<[u64; 3]> = HIGH_SAMPLE_RATES.map(|rate| [0, 0, rate]).to_vec();
+    rates.extend([[0, 0, 22_050], [1, 0, 24_000], [0, 0, 0], [1, 0, 0]]);
+    rates.extend([[0, 32_000, 48_000], [0, 32_000, 0], [1, 32_000, 0]]);
+    rates.push([0, 384_000, 1]);
+    in_every_mode(&rates, random)
+}
+
+/// Every rate of `BESIDE` once, and frames whose bits would not fit 32 bits.
+pub fn off_ladder(random: &mut Random) -> Vec<Head> {
+    let mut heads = vec![[1, 3_728_271, 1, 0, 1, 0, 0], [1, TOP, 1, 0, 1, SINGLE, 0]];
+    for lsf in FLAGS {
+        for &bit_rate in &BESIDE[lsf as usize] {
+            let mut head = any_head(random);
+            head[LSF] = lsf;
+            head[BIT_RATE] = bit_rate;
+            heads.push(at_refused_rates(head, random));
+        }
+    }
+    heads
+}
+
+/// At times a sample rate at which there is no table or no frame: 16 comes before 1 and 2.
+fn at_refused_rates(head: Head, random: &mut Random) -> Head {
+    let mut head = head;
+    if random.one_in(3) {
+        head[SAMPLE_RATE] = random.pick(&[0, 0, 1, 22_050, 96_000]);
+    }
+    head
+}
+
+/// lsf, a bit rate on the ladder and a sample rate, for a frame of so many bytes or nearly.
+fn of_bytes(bytes: u64, random: &mut Random) -> [u64; 3] {
+    let bit_rate = random.pick(ladder(1));
+    [1, bit_rate, sample_rate_for(bit_rate, bytes)]
+}
+
+/// On the ladder: mostly served, often with a frame that no standard has.
+fn draw_named(random: &mut Random) -> Head {
     let mode = random.pick(&MODES);
     let [lsf, bit_rate, sample_rate] = match random.below(20) {
-        0..=9 => {
-            let kilobits = random.pick(&KILOBITS);
-            let excess = random.pick(&[0, 0, 1, 999]);
-            let bit_rate = both_channels(kilobits, mode) + excess;
+        0..=8 => {
+            let bit_rate = bits_per_second(0, random.pick(&KILOBITS), mode);
             [0, bit_rate, random.pick(&HIGH_SAMPLE_RATES)]
         }
-        10..=13 => {
-            let bit_rate = 1000 * random.pick(&LSF_KILOBITS);
-            [1, bit_rate, random.pick(&LOW_SAMPLE_RATES)]
-        }
-        14..=16 => [1, random.below(3_000), BYTES_RATE],
-        17 => [1, random.below(139), 1],
-        18 => [1, random.below(LARGEST_FRAME), BYTES_RATE],
+        9..=12 => [1, random.pick(ladder(1)), random.pick(&LOW_SAMPLE_RATES)],
+        // About the fixed bits, which are 107 to 198.
+        13 => of_bytes(10 + random.below(40), random),
+        14..=16 => of_bytes(random.below(3_000), random),
+        17 => of_bytes(random.below(20_000), random),
+        // From empty frames to the largest.
+        18 => [1, random.pick(ladder(1)), random.word().max(1)],
         _ => {
             let head = any_head(random);
-            [head[LSF], head[BIT_RATE], head[SAMPLE_RATE]]
+            let bit_rate = draw_on_ladder(head[LSF], random);
+            [head[LSF], bit_rate, head[SAMPLE_RATE]]
         }
     };
     let extension = random.pick(&EXTENSIONS);
     with_flags([lsf, bit_rate, sample_rate, 0, 0, mode, extension], random)
+}
+
+/// One header: four of five are on the ladder, and mostly served.
+pub fn draw(random: &mut Random) -> Head {
+    let mut head = draw_named(random);
+    if random.one_in(5) {
+        head[BIT_RATE] = draw_off_ladder(head[LSF], random);
+        head = at_refused_rates(head, random);
+    }
+    head
+}
+
+/// Any header: three of four are on the ladder, served or not.
+pub fn draw_any(random: &mut Random) -> Head {
+    let mut head = any_head(random);
+    head[BIT_RATE] = match random.below(4) {
+        0 => draw_off_ladder(head[LSF], random),
+        _ => draw_on_ladder(head[LSF], random),
+    };
+    head
 }
 
 /// Ratios for this header; what it must not read is at times disturbed.

@@ -43,12 +43,12 @@ fn single() -> Head {
     }
 }
 
-// The longest frame that is accepted, which has no room for padding.
+// The longest frame that is accepted, but for padding.
 fn largest() -> Head {
     Head {
         lsf: 1,
-        bit_rate: 536_870_911,
-        sample_rate: 144,
+        bit_rate: 160_000,
+        sample_rate: 1,
         padding: 0,
         protection_bit: 1,
         mode: 3,

@@ -23,11 +23,12 @@ use Rattle.audio_data.specs.Record.{fresh}
 use Rattle.encoder_bit_budget.specs.declared.Request.{Request}
 use Rattle.encoder_bit_budget.specs.declared.FixedBitBudget.{FixedBitBudget}
 use Rattle.encoder_bit_budget.specs.declared.BitAllocError.{BitAllocError}
-use Rattle.encoder_bit_budget.specs.declared.BitAllocError.the-variants.{NoBitallocTable, ZeroSampleRate, FrameTooLarge}
+use Rattle.encoder_bit_budget.specs.declared.BitAllocError.the-variants.{RateOffLadder, NoBitallocTable, ZeroSampleRate}
 use Rattle.encoder_bit_budget.specs.declared.Budget.the-variants.{Ok, Refused}
 use Rattle.encoder_bit_budget.specs.Budget.{headerAsked, errorNumber, budgetIn, budgetOf, budgetUnder, budgetWith, layoutIn, fixedIn, offeredIn, offeredOf, natural}
 use Rattle.encoder_bit_demand.specs.Demand.{smrAt}
-use Rattle.encoder_bit_budget.proofs.BudgetLaws.{refusing-header, answer-is, accepted-is}
+use Rattle.encoder_bit_budget.proofs.BudgetLaws.{refusing-header, apart, answer-is, accepted-is}
+use Rattle.encoder_bit_budget.proofs.BudgetLaws as Header
 use Rattle.encoder_bit_budget.proofs.AvailableLaws.{natural-minus}
 use Rattle.allocation_rounds.specs.declared.Run.{Run}
 use Rattle.allocation_run.specs.Steps.{runOf, stepsOf}
@@ -75,6 +76,16 @@ module _ (q : Request) where
   else-header z =
       let bits = bitsAsked asked (q .banc) ∷ [] in
       behind 0 (headerAsked (q .header)) bits ∙ some-no (number bits) (headerAsked (q .header)) z
+
+  -- neither is ever 3
+  pub never-too-large : number (allocationAsked q) ≡ 3 → ⊥
+  never-too-large e =
+      let bits = bitsAsked asked (q .banc) ∷ [] in
+      Header.never-too-large (q .header) (number bits) (other (bitsAsked asked (q .banc) .yes)) (sym (behind 0 (headerAsked (q .header)) bits) ∙ e)
+    where
+      other : (yes : Bool) → _≡_ {A = ℕ} (elim yes [ true ↦ 0 | false ↦ 4 ]) 3 → ⊥
+      other true z = omega arith
+      other false z = omega arith
 
 enough : (b : FixedBitBudget) (banc : ℕ) → fixedIn b + banc ≤ b .cb → number (bitsAsked b banc ∷ []) ≡ 0
 enough b banc l = said-yes 0 (bitsAsked b banc) [] (le-leb (fixedIn b + banc) (b .cb) l)
@@ -148,14 +159,10 @@ module _ (q : Request) (smr : List (List Float)) where
       let z : number (headerAsked (q .header)) ≡ errorNumber e = sym (answer-is q) ∙ sym (ap (λ a. a .answer) p) in
       made ∙ ap refused s ∙ is e ∙ ap (allocationIn (asked q) smr (q .banc)) (sym (else-header q (rw z (apart e)) ∙ z))
     where
-      apart : (e : BitAllocError) → eqb (errorNumber e) 0 ≡ false
-      apart NoBitallocTable = refl
-      apart ZeroSampleRate = refl
-      apart FrameTooLarge = refl
       is : (e : BitAllocError) → refused (errorNumber e) ≡ allocationIn (asked q) smr (q .banc) (errorNumber e)
+      is RateOffLadder = refl
       is NoBitallocTable = refl
       is ZeroSampleRate = refl
-      is FrameTooLarge = refl
 
   -- it is accepted, and the bits are asked
   pub from-accepted : (b : FixedBitBudget) (r : Allocation) → budgetIn (Ok b) ≡ budgetOf q → r ≡ allocationUnder b smr (q .banc) → r ≡ allocationOf q smr

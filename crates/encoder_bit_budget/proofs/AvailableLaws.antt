@@ -13,10 +13,10 @@ use borrow.Author.Tests.{le-leb, leb-true, leb-false, ltb-true, ltb-false}
 use Rattle.encoder_bit_budget.specs.declared.Request.{Request}
 use Rattle.encoder_bit_budget.specs.declared.FixedBitBudget.{FixedBitBudget}
 use Rattle.encoder_bit_budget.specs.declared.BitAllocError.{BitAllocError}
-use Rattle.encoder_bit_budget.specs.declared.BitAllocError.the-variants.{NoBitallocTable, ZeroSampleRate, FrameTooLarge}
 use Rattle.encoder_bit_budget.specs.declared.Budget.{Budget}
 use Rattle.encoder_bit_budget.specs.declared.Budget.the-variants.{Ok, Refused}
 use Rattle.encoder_bit_budget.specs.Budget.{errorNumber, budgetIn, budgetOf, offeredIn, Available, availableBy, availableOf, natural}
+use Rattle.encoder_bit_budget.proofs.BudgetLaws.{apart}
 
 -- ---- a difference below 0 too
 
@@ -61,9 +61,7 @@ natural-minus a b = go (leb b a) refl
 
 pub refused-in : (banc : ℕ) (e : BitAllocError) → record { answer = errorNumber e; bits = pos 0 } ≡ availableBy banc (budgetIn (Refused e))
 unfolding availableBy
-refused-in banc NoBitallocTable = refl
-refused-in banc ZeroSampleRate = refl
-refused-in banc FrameTooLarge = refl
+refused-in banc e = rw (apart e)
 
 pub accepted-in : (banc : ℕ) (b : FixedBitBudget) (z : ℤ) → z ≡ offeredIn b banc
   → record { answer = 0; bits = z } ≡ availableBy banc (budgetIn (Ok b))

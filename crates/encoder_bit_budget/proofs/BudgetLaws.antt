@@ -1,20 +1,22 @@
 -- Each answer of the budget from what the questions found, and the bounds of an accepted one.
 use mathlib.Core.Path.{_≡_, refl, sym, ap, ap₂, _∙_, subst}
-use mathlib.Core.Bool.{Bool, true, false, not, cond}
+use mathlib.Core.Bool.{Bool, true, false, not, cond, true≢false}
 use mathlib.Core.List.{[], _∷_}
 use mathlib.Core.Option.{Option, none, some}
-use Prim.Native.Nat.{ℕ, zero, suc, _*_, _≤_, _<_}
-use native.Mathlib.Nat.{mul-le-mul-right}
+use Prim.Native.Nat.{ℕ, zero, suc, _*_, _≤_}
+use native.Mathlib.Nat.{mul-le-mul-right, div-le-self}
 use native.Mathlib.Omega.{arith}
 use lib.Dec.{T, eqb, lit≤}
-use borrow.Author.Tests.{le-leb, lt-leb}
+use borrow.Author.Tests.{le-leb, eq-eqb}
 use Rattle.header.specs.declared.FrameHeader.{FrameHeader}
 use Rattle.header.specs.declared.Mode.{Mode}
 use Rattle.header.specs.declared.Mode.the-variants.{Stereo, JointStereo, DualChannel, SingleChannel}
 use Rattle.header.specs.declared.FrameSize.the-variants as Size
-use Rattle.header.specs.Questions.{number}
+use Rattle.header.specs.Questions.{firstNo, number}
 use Rattle.header.specs.Header.{channelsOf, boundOf, frameBytes, sizeOf, frameSize, sampleRateAsked}
-use Rattle.header.proofs.QuestionLaws.{said-yes, said-no, refusing}
+use Rattle.header.proofs.QuestionLaws.{said-yes, said-no, refusing, all-yes, some-no}
+use Rattle.ladder.specs.Ladder.{onLadder}
+use Rattle.ladder.proofs.LadderLaws.{at-most}
 use Rattle.bitalloc.specs.declared.BitAllocTable.{BitAllocTable}
 use Rattle.bitalloc.specs.declared.BitAllocTable.the-variants.{B2a, B2b, B2c, B2d, B1Lsf}
 use Rattle.bitalloc.specs.Options.{isSome}
@@ -29,10 +31,10 @@ use Rattle.layout.proofs.SumLaws.{sum-append, two-at-most, counted}
 use Rattle.encoder_bit_budget.specs.declared.Request.{Request}
 use Rattle.encoder_bit_budget.specs.declared.FixedBitBudget.{FixedBitBudget}
 use Rattle.encoder_bit_budget.specs.declared.BitAllocError.{BitAllocError}
-use Rattle.encoder_bit_budget.specs.declared.BitAllocError.the-variants.{NoBitallocTable, ZeroSampleRate, FrameTooLarge}
+use Rattle.encoder_bit_budget.specs.declared.BitAllocError.the-variants.{RateOffLadder, NoBitallocTable, ZeroSampleRate}
 use Rattle.encoder_bit_budget.specs.declared.Budget.{Budget}
 use Rattle.encoder_bit_budget.specs.declared.Budget.the-variants.{Ok, Refused}
-use Rattle.encoder_bit_budget.specs.Budget.{plain, tableAsked, sizeAsked, headerAsked, errorNumber, crcBits, allocationBits, budgetWith, budgetUnder, layoutIn, budgetIn, budgetOf, acceptedUnder, Bounded, BudgetIs}
+use Rattle.encoder_bit_budget.specs.Budget.{plain, bitRateAsked, tableAsked, sizeAsked, headerAsked, errorNumber, crcBits, allocationBits, budgetWith, budgetUnder, layoutIn, budgetIn, budgetOf, acceptedUnder, Bounded, BudgetIs}
 
 -- ---- what the frame's size tells
 
@@ -56,35 +58,77 @@ not-sized h e = go (eqb (h .«sample_rate») 0) refl
     go true p = p
     go false p = let z = ap (λ s. s .answer) e in absurd (omega (arith, rw p at z))
 
+-- at 384 kbit/s and 1 Hz a frame would have 55,296,000 bytes, and one more with padding; no table is selected there, so that accepted ones are shorter
+pub few-bytes : (h : FrameHeader) (n : ℕ) → onLadder h ≡ true → n ≡ frameBytes h → n ≤ 55_296_001
+few-bytes h n on many = omega (arith, at-most h on, div-le-self (144 * h .«bit_rate») (h .«sample_rate»), one-more (h .padding))
+  where
+    one-more : (b : Bool) → cond b 1 0 ≤ 1
+    one-more true = lit≤ tt
+    one-more false = lit≤ tt
+
 -- ---- what the header's questions are answered
 
 module _ (h : FrameHeader) where
-  pub no-table : tableOf h ≡ none → number (headerAsked h) ≡ 1
+  pub off-ladder : onLadder h ≡ false → number (headerAsked h) ≡ 16
   unfolding headerAsked
-  no-table e = rw e
+  off-ladder e = said-no 0 (bitRateAsked h) (tableAsked h ∷ sampleRateAsked h ∷ sizeAsked h ∷ []) e
 
-  module _ (t : BitAllocTable) (named : tableOf h ≡ some t) where
-    after-table : number (headerAsked h) ≡ number (sampleRateAsked h ∷ sizeAsked h ∷ [])
+  module _ (on : onLadder h ≡ true) where
+    after-rate : number (headerAsked h) ≡ number (tableAsked h ∷ sampleRateAsked h ∷ sizeAsked h ∷ [])
     unfolding headerAsked
-    after-table = said-yes 0 (tableAsked h) (sampleRateAsked h ∷ sizeAsked h ∷ []) (ap isSome named)
+    after-rate = said-yes 0 (bitRateAsked h) (tableAsked h ∷ sampleRateAsked h ∷ sizeAsked h ∷ []) on
 
-    pub no-rate : eqb (h .«sample_rate») 0 ≡ true → number (headerAsked h) ≡ 2
-    no-rate e = after-table ∙ said-no 0 (sampleRateAsked h) (sizeAsked h ∷ []) (ap not e)
+    pub no-table : tableOf h ≡ none → number (headerAsked h) ≡ 1
+    no-table e = after-rate ∙ said-no 0 (tableAsked h) (sampleRateAsked h ∷ sizeAsked h ∷ []) (ap isSome e)
 
-    module _ (rated : eqb (h .«sample_rate») 0 ≡ false) where
-      after-rate : number (headerAsked h) ≡ number (sizeAsked h ∷ [])
-      after-rate = after-table ∙ said-yes 0 (sampleRateAsked h) (sizeAsked h ∷ []) (ap not rated)
+    module _ (t : BitAllocTable) (named : tableOf h ≡ some t) where
+      after-table : number (headerAsked h) ≡ number (sampleRateAsked h ∷ sizeAsked h ∷ [])
+      after-table = after-rate ∙ said-yes 0 (tableAsked h) (sampleRateAsked h ∷ sizeAsked h ∷ []) (ap isSome named)
 
-      pub too-large : 536_870_911 < frameBytes h → number (headerAsked h) ≡ 3
-      too-large l = after-rate ∙ said-no 0 (sizeAsked h) [] (lt-leb (frameBytes h) 536_870_911 l)
+      pub no-sample-rate : eqb (h .«sample_rate») 0 ≡ true → number (headerAsked h) ≡ 2
+      no-sample-rate e = after-table ∙ said-no 0 (sampleRateAsked h) (sizeAsked h ∷ []) (ap not e)
 
-      pub all-asked : frameBytes h ≤ 536_870_911 → number (headerAsked h) ≡ 0
-      all-asked l = after-rate ∙ said-yes 0 (sizeAsked h) [] (le-leb (frameBytes h) 536_870_911 l)
+      -- question 3 is answered yes
+      pub all-asked : eqb (h .«sample_rate») 0 ≡ false → number (headerAsked h) ≡ 0
+      all-asked rated =
+          after-table
+          ∙ said-yes 0 (sampleRateAsked h) (sizeAsked h ∷ []) (ap not rated)
+          ∙ said-yes 0 (sizeAsked h) [] (le-leb (frameBytes h) _ (omega (arith, few-bytes h (frameBytes h) on refl)))
+
+  -- ---- so every header has one of four answers
+
+  pub data Answered : Type 0 where
+    off : number (headerAsked h) ≡ 16 → Answered
+    untabled : number (headerAsked h) ≡ 1 → Answered
+    unrated : number (headerAsked h) ≡ 2 → Answered
+    served : (t : BitAllocTable) → tableOf h ≡ some t → number (headerAsked h) ≡ 0 → Answered
+
+  pub answered : Answered
+  answered = go (onLadder h) refl (tableOf h) refl (eqb (h .«sample_rate») 0) refl
+    where
+      go : (on : Bool) → onLadder h ≡ on → (o : Option BitAllocTable) → tableOf h ≡ o → (z : Bool) → eqb (h .«sample_rate») 0 ≡ z → Answered
+      go false l o n z r = off (off-ladder l)
+      go true l none n z r = untabled (no-table l n)
+      go true l (some t) n true r = unrated (no-sample-rate l t n r)
+      go true l (some t) n false r = served t n (all-asked l t n r)
 
 -- each of them refuses by a number that is not 0
 pub refusing-header : (h : FrameHeader) → T (refusing (headerAsked h))
 unfolding headerAsked
 refusing-header h = tt
+
+-- no header is answered by question 3, whatever is asked behind: at a rate on its ladder a frame's bits fit 32 bits
+pub never-too-large : (h : FrameHeader) (behind : ℕ) → (behind ≡ 3 → ⊥) → firstNo behind (headerAsked h) ≡ 3 → ⊥
+never-too-large h behind other e = go (answered h)
+  where
+    -- a number of the header's own decides
+    own : (n : ℕ) → number (headerAsked h) ≡ n → eqb n 0 ≡ false → n ≡ 3
+    own n is apart = sym is ∙ sym (some-no behind (headerAsked h) (ap (λ (m : ℕ). eqb m 0) is ∙ apart)) ∙ e
+    go : Answered h → ⊥
+    go (off n) = let z = own 16 n refl in omega arith
+    go (untabled n) = let z = own 1 n refl in omega arith
+    go (unrated n) = let z = own 2 n refl in omega arith
+    go (served t m n) = other (sym (all-yes behind (headerAsked h) (refusing-header h) n) ∙ e)
 
 -- ---- the bounds of an accepted budget
 
@@ -146,20 +190,21 @@ under q t l n b e d f = f ∙ ap₂ (λ (m : ℕ) (l : Layout). budgetWith (8 * 
 
 -- ---- the answers by the number
 
+-- no refusal has the number 0
+pub apart : (e : BitAllocError) → eqb (errorNumber e) 0 ≡ false
+apart RateOffLadder = refl
+apart NoBitallocTable = refl
+apart ZeroSampleRate = refl
+
 module _ (q : Request) where
   refused-is : (e : BitAllocError) → number (headerAsked (q .header)) ≡ errorNumber e → budgetIn (Refused e) ≡ budgetOf q
   unfolding budgetOf
+  refused-is RateOffLadder n = rw n
   refused-is NoBitallocTable n = rw n
   refused-is ZeroSampleRate n = rw n
-  refused-is FrameTooLarge n = rw n
 
   no-budget : (e : BitAllocError) (b : FixedBitBudget) → Refused e ≡ Ok b → Bounded b
-  no-budget e b p = absurd (let z = ap (λ r. budgetIn r .answer) p in apart e z)
-    where
-      apart : (e : BitAllocError) → errorNumber e ≡ 0 → ⊥
-      apart NoBitallocTable z = omega arith
-      apart ZeroSampleRate z = omega arith
-      apart FrameTooLarge z = omega arith
+  no-budget e b p = absurd (let z = ap (λ r. budgetIn r .answer) p in true≢false (sym (eq-eqb (errorNumber e) 0 z) ∙ apart e))
 
   pub refused : (e : BitAllocError) → number (headerAsked (q .header)) ≡ errorNumber e → BudgetIs q (Refused e)
   refused e n = record { whole = refused-is e n; bounded = no-budget e }
@@ -202,15 +247,17 @@ module _ (q : Request) where
     -- an accepted budget is the one under its own table
     pub accepted-is : b ≡ budgetUnder q (b .table)
     unfolding budgetOf
-    accepted-is = go (tableOf (q .header)) refl
+    accepted-is = go (answered (q .header))
       where
         z : 0 ≡ number (headerAsked (q .header))
         z = ap (λ a. a .answer) ok
         w : b ≡ acceptedUnder q 0 (tableOf (q .header))
         w = subst (λ (n : ℕ). b ≡ acceptedUnder q n (tableOf (q .header))) (sym z) (ap (λ a. a .budget) ok)
-        go : (o : Option BitAllocTable) → tableOf (q .header) ≡ o → b ≡ budgetUnder q (b .table)
-        go none p = let n : _≡_ {A = ℕ} 0 1 = z ∙ no-table (q .header) p in absurd (omega arith)
-        go (some t) p =
+        go : Answered (q .header) → b ≡ budgetUnder q (b .table)
+        go (off n) = let e = z ∙ n in absurd (omega arith)
+        go (untabled n) = let e = z ∙ n in absurd (omega arith)
+        go (unrated n) = let e = z ∙ n in absurd (omega arith)
+        go (served t p n) =
             let r = subst (λ o. b ≡ acceptedUnder q 0 o) p w in
             r ∙ ap (budgetUnder q) (sym (table-of b t r))
 

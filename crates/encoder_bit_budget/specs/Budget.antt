@@ -10,6 +10,7 @@ use lib.Ieee.{minus}
 use Rattle.header.specs.declared.FrameHeader.{FrameHeader}
 use Rattle.header.specs.Questions.{Question, number}
 use Rattle.header.specs.Header.{frameBytes, sampleRateAsked}
+use Rattle.ladder.specs.Ladder.{onLadder}
 use Rattle.bitalloc.specs.declared.BitAllocTable.{BitAllocTable}
 use Rattle.bitalloc.specs.declared.BitAllocTable.the-variants.{B2a}
 use Rattle.bitalloc.specs.Options.{isSome}
@@ -20,7 +21,7 @@ use Rattle.layout.specs.Layout.{layoutOf, limitOf, fieldsOf, sumOver}
 use Rattle.encoder_bit_budget.specs.declared.Request.{Request}
 use Rattle.encoder_bit_budget.specs.declared.FixedBitBudget.{FixedBitBudget}
 use Rattle.encoder_bit_budget.specs.declared.BitAllocError.{BitAllocError}
-use Rattle.encoder_bit_budget.specs.declared.BitAllocError.the-variants.{NoBitallocTable, ZeroSampleRate, FrameTooLarge}
+use Rattle.encoder_bit_budget.specs.declared.BitAllocError.the-variants.{RateOffLadder, NoBitallocTable, ZeroSampleRate}
 use Rattle.encoder_bit_budget.specs.declared.Budget.{Budget}
 use Rattle.encoder_bit_budget.specs.declared.Budget.the-variants.{Ok, Refused}
 use Rattle.encoder_bit_budget.specs.declared.AvailableBits.{AvailableBits}
@@ -32,23 +33,27 @@ use Rattle.encoder_bit_budget.specs.declared.AvailableBits.the-variants 
 abbrev pub plain : FrameHeader → ℕ → Request
 plain h banc = record { header = h; banc = banc }
 
+-- question 16, which is asked first: the bit rate is on the header's ladder
+abbrev pub bitRateAsked : FrameHeader → Question ℕ
+bitRateAsked h = record { yes = onLadder h; otherwise = 16 }
+
 -- question 1: a table is selected
 abbrev pub tableAsked : FrameHeader → Question ℕ
 tableAsked h = record { yes = isSome (tableOf h); otherwise = 1 }
 
--- question 3: the frame's bits fit 32 bits
+-- question 3: the frame's bits fit 32 bits, as they do wherever question 16 is answered yes
 abbrev pub sizeAsked : FrameHeader → Question ℕ
 sizeAsked h = record { yes = leb (frameBytes h) 536_870_911; otherwise = 3 }
 
--- the questions that every entry with a header asks first
+-- the questions that every entry with a header asks first, but for `frame_size_bytes`, `select_table` and `bitrate_per_channel_kbps`
 unfoldable pub headerAsked : FrameHeader → List (Question ℕ)
-headerAsked h = tableAsked h ∷ sampleRateAsked h ∷ sizeAsked h ∷ []
+headerAsked h = bitRateAsked h ∷ tableAsked h ∷ sampleRateAsked h ∷ sizeAsked h ∷ []
 
--- the numbers of their refusals
+-- the numbers of their refusals; 3 is never given
 abbrev pub errorNumber : BitAllocError → ℕ
+errorNumber RateOffLadder = 16
 errorNumber NoBitallocTable = 1
 errorNumber ZeroSampleRate = 2
-errorNumber FrameTooLarge = 3
 
 -- ---- the budget of an accepted header
 

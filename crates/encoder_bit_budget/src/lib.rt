@@ -1,7 +1,9 @@
 // The bits of a frame: what is fixed, and what is offered to samples and scalefactors. The constant terms of the bit allocation of
 // ISO/IEC 11172-3 C.1.5.2.7.
 ghost use mathlib.Core.Path.{_≡_};
+ghost use mathlib.Core.Bool.{true};
 ghost use mathlib.Core.Option.{some};
+ghost use Rattle.ladder.specs.Ladder.{onLadder};
 ghost use Rattle.table_selection.specs.Select.{tableOf};
 ghost use Rattle.encoder_bit_budget.specs.Budget.{errorNumber, plain, crcBits, allocationBits, fixedIn, layoutIn, budgetWith, budgetIn, availableIn, availableBy, availableOf, BudgetIs};
 use bitalloc::{BitAllocTable, OptionTable};
@@ -17,9 +19,9 @@ pub struct Request {
 
 // Why a header has no budget.
 pub enum BitAllocError {
+    RateOffLadder,
     NoBitallocTable,
     ZeroSampleRate,
-    FrameTooLarge,
 }
 
 impl BitAllocError {
@@ -28,9 +30,9 @@ impl BitAllocError {
         ensures { λ r. ⌜ r ≡ errorNumber self ⌝ }
     {
         match self {
+            BitAllocError::RateOffLadder => 16,
             BitAllocError::NoBitallocTable => 1,
             BitAllocError::ZeroSampleRate => 2,
-            BitAllocError::FrameTooLarge => 3,
         }
     }
 }
@@ -108,6 +110,9 @@ impl Request {
         ensures { λ r. ⌜ BudgetIs self r ⌝ }
     {
         let header = self.header;
+        if !ladder::on_ladder(header) {
+            return Budget::Refused(BitAllocError::RateOffLadder);
+        }
         let selected = table_selection::select_table(header);
         match selected {
             OptionTable::Some(table) => budget_under(header, table),
@@ -116,8 +121,10 @@ impl Request {
     }
 }
 
-// The budget under the table that was selected.
+// The budget under the table that was selected. At 384 kbit/s, the ladder's end, and 1 Hz a frame would have 55,296,001 bytes with padding, so the
+// bits of every frame fit 32 bits.
 fn budget_under(header: FrameHeader, table: BitAllocTable) -> Budget
+    requires { ⌜ onLadder header ≡ true ⌝ }
     requires { ⌜ tableOf header ≡ some table ⌝ }
     ensures { λ r. ⌜ BudgetIs (plain header 0) r ⌝ }
 {
@@ -125,10 +132,6 @@ fn budget_under(header: FrameHeader, table: BitAllocTable) -> Budget
     let FrameSize::Bytes(bytes) = size else {
         return Budget::Refused(BitAllocError::ZeroSampleRate);
     };
-    // From 536,870,912 bytes on the frame's bits do not fit 32 bits.
-    if 536_870_911 < bytes {
-        return Budget::Refused(BitAllocError::FrameTooLarge);
-    }
     let layout = Layout::of_header(header, table);
     Budget::Ok(budget_with(8 * (bytes as u32), header.protection_bit, layout))
 }

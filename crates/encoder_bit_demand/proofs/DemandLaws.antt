@@ -26,13 +26,13 @@ use Rattle.layout.specs.declared.Layout.{Layout}
 use Rattle.layout.specs.declared.AllocationField.{AllocationField}
 use Rattle.encoder_bit_budget.specs.declared.FixedBitBudget.{FixedBitBudget}
 use Rattle.encoder_bit_budget.specs.declared.BitAllocError.{BitAllocError}
-use Rattle.encoder_bit_budget.specs.declared.BitAllocError.the-variants.{NoBitallocTable, ZeroSampleRate, FrameTooLarge}
+use Rattle.encoder_bit_budget.proofs.BudgetLaws.{apart}
 use Rattle.encoder_bit_budget.specs.declared.Budget.the-variants.{Ok, Refused}
 use Rattle.encoder_bit_demand.specs.declared.DemandBits.{DemandBits}
 use Rattle.encoder_bit_demand.specs.declared.DemandBits.the-variants as Demand
-use Rattle.encoder_bit_budget.specs.Budget.{BudgetAnswer, plain, errorNumber, budgetIn, budgetOf, layoutIn}
+use Rattle.encoder_bit_budget.specs.Budget.{BudgetAnswer, plain, budgetIn, budgetOf, layoutIn}
 use Rattle.encoder_bit_demand.specs.Snr.{snr}
-use Rattle.encoder_bit_demand.specs.Demand.{neededSteps, neededBits, orTop, smrAt, smrsOf, largestSmr, layoutDemand, Demanded, demandOf, FirstStepIs, DemandIs, demandBy}
+use Rattle.encoder_bit_demand.specs.Demand.{neededSteps, neededBits, orTop, smrAt, smrsOf, largestSmr, layoutDemand, demandOf, FirstStepIs, DemandIs, demandBy}
 use Rattle.encoder_bit_demand.specs.OnTheWay.{NeededIs, FieldDemandIs, LayoutDemandIs, DemandInIs}
 
 -- ---- the steps that a ratio needs, by a search along the first places of a row
@@ -149,12 +149,7 @@ field-demand t smr x first r row s e m f n = record {
 -- ---- the answers
 
 pub refused-in : (smr : List (List Float)) (e : BitAllocError) → DemandInIs (budgetIn (Refused e)) smr (Demand.Refused e)
-refused-in smr e = record { whole = go e; small = lit≤ tt }
-  where
-    go : (e : BitAllocError) → _≡_ {A = Demanded} (record { answer = errorNumber e; bits = 0 }) (demandBy smr (budgetIn (Refused e)))
-    go NoBitallocTable = refl
-    go ZeroSampleRate = refl
-    go FrameTooLarge = refl
+refused-in smr e = record { whole = rw (apart e); small = lit≤ tt }
 
 pub accepted-in : (smr : List (List Float)) (b : FixedBitBudget) (l : Layout) (bits : ℕ) → l ≡ layoutIn b → LayoutDemandIs l smr bits
   → DemandInIs (budgetIn (Ok b)) smr (Demand.Bits bits)

@@ -1,7 +1,7 @@
 -- Every number of a row is in Table C.5, above place 0 in Table 3-B.4 too, by a test that antt computes over the rows; so along a row the
 -- ratios and the sample bits rise.
-use mathlib.Core.Path.{_≡_, refl, sym, ap, _∙_, subst}
-use mathlib.Core.Bool.{Bool, true, false, not, _&&_, _||_}
+use mathlib.Core.Path.{_≡_, refl, sym, ap, _∙_}
+use mathlib.Core.Bool.{Bool, not, _&&_, _||_}
 use mathlib.Core.List.{List, [], _∷_}
 use mathlib.Core.Logic.{⊎-elim}
 use mathlib.Core.Option.{Option, none, some}
@@ -16,6 +16,7 @@ use borrow.Author.Tests.{lt-ltb, eqb-true}
 use Rattle.tables.specs.Search.{oneOf}
 use Rattle.tables.proofs.Rule.{first, second, all, all-at, allBelow, below}
 use Rattle.tables.proofs.Search.{find-passes}
+use Rattle.tables.proofs.Keys.{of-member}
 use Rattle.bitalloc.specs.declared.BitAllocTable.{BitAllocTable}
 use Rattle.bitalloc.specs.declared.BitAllocTable.the-variants.{B2a, B2b, B2c, B2d, B1Lsf}
 use Rattle.quantization.specs.declared.QuantClass.{QuantClass}
@@ -56,16 +57,6 @@ row-keyed : (t : BitAllocTable) (sb : ℕ) → T (keyed (rowOf t sb))
 unfolding keyed
 row-keyed t sb =
     everywhere (λ row. T (keyed row)) t sb (below (sblimitOf t) (λ sb. keyed (rowOf t sb)) (computed t) sb) tt
-
--- what a test says of each number of a list it says of one that is in it
-of-member : (p : ℕ → Bool) (ks : List ℕ) (n : ℕ) → T (all p ks) → T (oneOf ks n) → T (p n)
-unfolding oneOf
-of-member p [] n t h = absurd h
-of-member p (k ∷ ks) n t h = go (of-member p ks n (second (p k) (all p ks) t)) (eqb n k) refl h
-  where
-    go : (T (oneOf ks n) → T (p n)) → (b : Bool) → eqb n k ≡ b → T (b || oneOf ks n) → T (p n)
-    go rest true e h = subst (λ (m : ℕ). T (p m)) (sym (eqb-true n k e)) (first (p k) (all p ks) t)
-    go rest false e h = rest h
 
 -- of each entry of a list
 all-within : (p : ℕ → Bool) (xs : List ℕ) (i : ℕ) → T (all p xs) → i < length xs → T (p (getD xs i 0))

@@ -84,7 +84,7 @@ impl ModeExtension {
     }
 }
 
-// The fields that a decision reads; any values are taken, on a ladder or off it.
+// The fields that a decision reads. Any values make a header; what an entry serves it asks itself.
 pub struct FrameHeader {
     // The low sampling frequencies of ISO/IEC 13818-3.
     pub lsf: bool,

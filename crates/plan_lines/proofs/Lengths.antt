@@ -1,20 +1,25 @@
 -- No line is longer than what a line holds.
 use mathlib.Core.Bool.{Bool, true, false, cond}
-use mathlib.Core.List.{List, _++_}
-use Prim.Native.Nat.{ℕ, _+_, _-_, _/_, _≤_}
+use mathlib.Core.List.{List, [], _∷_, _++_}
+use mathlib.Core.Option.{Option, none, some, Option·map}
+use Prim.Native.Nat.{ℕ, suc, _+_, _-_, _/_, _≤_}
 use native.Mathlib.Omega.{arith}
-use lib.Dec.{leb, eqb}
+use lib.Dec.{leb, eqb, lit≤}
 use lib.ListN.{length, length-append}
+use Rattle.tables.specs.Search.{place, entryAt, find}
+use Rattle.header.specs.declared.FrameHeader.{FrameHeader}
+use Rattle.header.specs.Header.{freeFormat}
+use Rattle.ladder.specs.Ladder.{ladder, lsfLadder, ladderOf}
 use Rattle.bitalloc.specs.declared.BitAllocTable.{BitAllocTable}
 use Rattle.bitalloc.specs.declared.BitAllocTable.the-variants.{B2a, B2b, B2c, B2d, B1Lsf}
 use Rattle.encoder_bit_budget.specs.declared.FixedBitBudget.{FixedBitBudget}
 use Rattle.plan_text.specs.Quoted.{text}
 use Rattle.text_line.specs.Line.{aligned}
-use Rattle.text_line.specs.Number.{numberText}
+use Rattle.text_line.specs.Number.{digitsOf, numberText}
 use Rattle.text_line.proofs.LineLaws.{column-length}
 use Rattle.text_line.proofs.NumberLaws.{few-digits}
 use Rattle.plan_lines.specs.Lines.{tableText, limitsText, frameLine, bitsLine, balanceText, demandLine}
-use Rattle.plan_lines.specs.Refusal.{noTableText, tooSmallText, adviceText, reasonText, refusalLine, noSampleRateText, tooLargeText}
+use Rattle.plan_lines.specs.Refusal.{offLadderText, noTableText, tooSmallText, adviceText, sentences, said, reasonText, refusalLine}
 
 number : (n : ℕ) → length (numberText n) ≤ 20
 number n = few-digits 20 n
@@ -60,17 +65,34 @@ advice : (free : Bool) → length (adviceText free) ≤ 80
 advice true = omega arith
 advice false = omega arith
 
-reason : (free : Bool) (n cb fixed banc : ℕ) → length (reasonText free n cb fixed banc) ≤ 226
-unfolding noTableText tooSmallText
-reason free n cb fixed banc = go (eqb n 1) (eqb n 2) (eqb n 3) (advice free)
-  where
-    go : (one two three : Bool) → length (adviceText free) ≤ 80 → length (cond one noTableText (cond two noSampleRateText
-        (cond three tooLargeText (tooSmallText cb fixed banc ++ adviceText free)))) ≤ 226
-    go true two three h = omega arith
-    go false true three h = omega arith
-    go false false true h = omega arith
-    go false false false h = simp length-append (omega (arith, number cb, number fixed, number banc))
+off-ladder : (lsf : Bool) → length (offLadderText lsf) ≤ 226
+unfolding offLadderText ladderOf ladder lsfLadder digitsOf
+off-ladder true = lit≤ tt
+off-ladder false = lit≤ tt
 
-pub refusal-length : (free : Bool) (n cb fixed banc : ℕ) → length (refusalLine free n cb fixed banc) ≤ 256
+-- where every sentence is short, so is the one found
+Short : List (ℕ × List ℕ) → Type 0
+Short [] = Unit {0}
+Short (x ∷ xs) = (length (x .1) ≤ 226) × Short xs
+
+found : (f : ℕ × List ℕ → Bool) (xs : List (ℕ × List ℕ)) → Short xs → length (said (find f xs)) ≤ 226
+unfolding Short
+found f [] s = omega arith
+found f (x ∷ xs) s = go (f x) (place f xs) (found f xs (s .1))
+  where
+    go : (b : Bool) (p : Option ℕ) → length (said (entryAt xs p)) ≤ 226
+      → length (said (entryAt (x ∷ xs) (cond b (some 0) (Option·map suc p)))) ≤ 226
+    go true p h = s .0
+    go false none h = h
+    go false (some i) h = h
+
+reason : (h : FrameHeader) (n cb fixed banc : ℕ) → length (reasonText h n cb fixed banc) ≤ 226
+unfolding Short noTableText tooSmallText
+reason h n cb fixed banc =
+    let small : length (tooSmallText cb fixed banc ++ adviceText (freeFormat h)) ≤ 226 =
+        simp length-append (omega (arith, number cb, number fixed, number banc, advice (freeFormat h))) in
+    found (λ x. eqb n (x .0)) (sentences h cb fixed banc) (off-ladder (h .lsf), (omega arith, (omega arith, (omega arith, (small, tt)))))
+
+pub refusal-length : (h : FrameHeader) (n cb fixed banc : ℕ) → length (refusalLine h n cb fixed banc) ≤ 256
 unfolding refusalLine
-refusal-length free n cb fixed banc = simp length-append (omega (arith, number n, reason free n cb fixed banc))
+refusal-length h n cb fixed banc = simp length-append (omega (arith, number n, reason h n cb fixed banc))

@@ -1,27 +1,29 @@
 -- Laws of the page: which line stands where.
 use mathlib.Core.Path.{_≡_, refl, sym, ap, _∙_}
-use mathlib.Core.Bool.{Bool}
 use mathlib.Core.List.{List, [], _∷_, _++_}
 use Prim.Native.Nat.{ℕ, zero, suc, _+_, _-_, _≤_, _<_}
 use native.Mathlib.Omega.{arith}
+use lib.Dec.{T, eqb}
 use lib.Ieee.{Float}
 use lib.ListN.{length, getD, length-append, List·getD-append}
 use lib.Seq.{getD-append-add}
 use borrow.Author.Tests.{eq-eqb, ne-eqb}
 use Rattle.tables.specs.Listed.{tabulate}
+use Rattle.tables.specs.Search.{find}
+use Rattle.tables.proofs.Rule.{all}
 use Rattle.tables.proofs.Listed.{tabulated, length-tabulate}
 use Rattle.header.specs.declared.FrameHeader.{FrameHeader}
-use Rattle.header.specs.Header.{freeFormat}
+use Rattle.bitalloc.specs.Options.{isSome}
 use Rattle.encoder_bit_budget.specs.declared.FixedBitBudget.{FixedBitBudget}
 use Rattle.encoder_bit_budget.specs.declared.Request.{Request}
 use Rattle.encoder_bit_budget.specs.declared.BitAllocError.{BitAllocError}
 use Rattle.encoder_bit_budget.specs.declared.Budget.the-variants.{Refused}
-use Rattle.encoder_bit_budget.specs.Budget.{BudgetAnswer, plain, budgetIn, budgetOf, noBudget, layoutIn, offeredIn, offeredOf, natural}
+use Rattle.encoder_bit_budget.specs.Budget.{BudgetAnswer, plain, headerAsked, budgetIn, budgetOf, noBudget, layoutIn, offeredIn, offeredOf, natural}
 use Rattle.encoder_bit_demand.specs.Demand.{demandOf}
 use Rattle.encoder_bit_allocator.specs.declared.Allocation.{Allocation}
-use Rattle.encoder_bit_allocator.specs.Allocation.{allocationOf}
+use Rattle.encoder_bit_allocator.specs.Allocation.{allocationAsked, allocationOf}
 use Rattle.plan_page.specs.Rows.{subbandLine}
-use Rattle.plan_lines.specs.Refusal.{refusalLine}
+use Rattle.plan_lines.specs.Refusal.{sentences, refusalLine}
 use Rattle.plan_page.specs.Page.{headOf, footOf, acceptedPage, pageBy, pageOf}
 use Rattle.plan_page.specs.Held.{BudgetHeld}
 
@@ -32,12 +34,12 @@ behind-last : (line : List ℕ) (n : ℕ) → (n ≡ 0 → ⊥) → [] ≡ getD 
 behind-last line zero a = absurd (a refl)
 behind-last line (suc n) a = refl
 
-module _ (free : Bool) (smr : List (List Float)) (b : FixedBitBudget) (offered demand : ℕ) (a : Allocation) where
-  opened-accepted : a .number ≡ 0 → pageBy free smr b offered demand a ≡ acceptedPage b offered demand (a .audio .«nb_steps») (a .left) smr
+module _ (h : FrameHeader) (smr : List (List Float)) (b : FixedBitBudget) (offered demand : ℕ) (a : Allocation) where
+  opened-accepted : a .number ≡ 0 → pageBy h smr b offered demand a ≡ acceptedPage b offered demand (a .audio .«nb_steps») (a .left) smr
   unfolding pageBy
   opened-accepted z = rw (eq-eqb (a .number) 0 z)
 
-  opened-refused : (a .number ≡ 0 → ⊥) → pageBy free smr b offered demand a ≡ refusalLine free (a .number) (a .cb) (a .fixed) (a .banc) ∷ []
+  opened-refused : (a .number ≡ 0 → ⊥) → pageBy h smr b offered demand a ≡ refusalLine h (a .number) (a .cb) (a .fixed) (a .banc) ∷ []
   unfolding pageBy
   opened-refused z = rw (ne-eqb (a .number) 0 z)
 
@@ -45,19 +47,19 @@ module _ (h : FrameHeader) (banc : ℕ) (smr : List (List Float)) (a : Allocatio
   abbrev q : Request
   q = plain h banc
 
-  by : pageOf h banc smr ≡ pageBy (freeFormat h) smr (budgetOf q .budget) (natural (offeredOf q)) (demandOf h smr .bits) a
+  by : pageOf h banc smr ≡ pageBy h smr (budgetOf q .budget) (natural (offeredOf q)) (demandOf h smr .bits) a
   unfolding pageOf
-  by = ap (pageBy (freeFormat h) smr (budgetOf q .budget) (natural (offeredOf q)) (demandOf h smr .bits)) (sym e)
+  by = ap (pageBy h smr (budgetOf q .budget) (natural (offeredOf q)) (demandOf h smr .bits)) (sym e)
 
   pub page-accepted : (b : FixedBitBudget) (offered demand : ℕ) → b ≡ budgetOf q .budget → offered ≡ natural (offeredIn b banc) → demand ≡ demandOf h smr .bits
     → a .number ≡ 0 → pageOf h banc smr ≡ acceptedPage b offered demand (a .audio .«nb_steps») (a .left) smr
   page-accepted b offered demand p o d z =
       by
-      ∙ (λ i. pageBy (freeFormat h) smr (sym p i) (sym (o ∙ ap (λ (b : FixedBitBudget). natural (offeredIn b banc)) p) i) (sym d i) a)
-      ∙ opened-accepted (freeFormat h) smr b offered demand a z
+      ∙ (λ i. pageBy h smr (sym p i) (sym (o ∙ ap (λ (b : FixedBitBudget). natural (offeredIn b banc)) p) i) (sym d i) a)
+      ∙ opened-accepted h smr b offered demand a z
 
-  pub page-refused : (a .number ≡ 0 → ⊥) → pageOf h banc smr ≡ refusalLine (freeFormat h) (a .number) (a .cb) (a .fixed) (a .banc) ∷ []
-  page-refused z = by ∙ opened-refused (freeFormat h) smr (budgetOf q .budget) (natural (offeredOf q)) (demandOf h smr .bits) a z
+  pub page-refused : (a .number ≡ 0 → ⊥) → pageOf h banc smr ≡ refusalLine h (a .number) (a .cb) (a .fixed) (a .banc) ∷ []
+  page-refused z = by ∙ opened-refused h smr (budgetOf q .budget) (natural (offeredOf q)) (demandOf h smr .bits) a z
 
   -- a line of the page, from what the code has for its parts
   pub line-accepted : (b : FixedBitBudget) (offered demand n : ℕ) (t : List ℕ) → b ≡ budgetOf q .budget → offered ≡ natural (offeredIn b banc)
@@ -65,16 +67,18 @@ module _ (h : FrameHeader) (banc : ℕ) (smr : List (List Float)) (a : Allocatio
     → t ≡ getD (pageOf h banc smr) n []
   line-accepted b offered demand n t p o d z g = g ∙ ap (λ (p : List (List ℕ)). getD p n []) (sym (page-accepted b offered demand p o d z))
 
-  pub line-refused : (free : Bool) (n : ℕ) (t : List ℕ) → free ≡ freeFormat h → (a .number ≡ 0 → ⊥) → n ≡ 0
-    → t ≡ refusalLine free (a .number) (a .cb) (a .fixed) (a .banc) → t ≡ getD (pageOf h banc smr) n []
-  line-refused free n t f z k e =
-      rw k
-      (e
-      ∙ ap (λ (x : Bool). refusalLine x (a .number) (a .cb) (a .fixed) (a .banc)) f
-      ∙ ap (λ (p : List (List ℕ)). getD p 0 []) (sym (page-refused z)))
+  pub line-refused : (n : ℕ) (t : List ℕ) → (a .number ≡ 0 → ⊥) → n ≡ 0
+    → t ≡ refusalLine h (a .number) (a .cb) (a .fixed) (a .banc) → t ≡ getD (pageOf h banc smr) n []
+  line-refused n t z k e = rw k (e ∙ ap (λ (p : List (List ℕ)). getD p 0 []) (sym (page-refused z)))
 
   pub line-behind : (n : ℕ) (t : List ℕ) → (a .number ≡ 0 → ⊥) → (n ≡ 0 → ⊥) → t ≡ [] → t ≡ getD (pageOf h banc smr) n []
   line-behind n t z k e = e ∙ behind-last _ n k ∙ ap (λ (p : List (List ℕ)). getD p n []) (sym (page-refused z))
+
+-- every number that the questions of an allocation give has its sentence
+pub each-has-one : (q : Request) (cb fixed banc : ℕ)
+  → T (all (λ x. isSome (find (λ s. eqb (x .otherwise) (s .0)) (sentences (q .header) cb fixed banc))) (allocationAsked q))
+unfolding headerAsked
+each-has-one q cb fixed banc = tt
 
 -- ---- where a line stands on the page of an accepted request
 

@@ -1,12 +1,11 @@
 -- The page that answers a request: a header, the ancillary bits and the signal-to-mask ratios.
 use Prim.Native.Nat.{ℕ, _-_}
-use mathlib.Core.Bool.{Bool, cond}
+use mathlib.Core.Bool.{cond}
 use mathlib.Core.List.{List, [], _∷_, _++_}
 use lib.Dec.{eqb}
 use lib.Ieee.{Float}
 use Rattle.tables.specs.Listed.{tabulate}
 use Rattle.header.specs.declared.FrameHeader.{FrameHeader}
-use Rattle.header.specs.Header.{freeFormat}
 use Rattle.layout.specs.Layout.{channelCount}
 use Rattle.encoder_bit_budget.specs.declared.FixedBitBudget.{FixedBitBudget}
 use Rattle.encoder_bit_budget.specs.Budget.{plain, budgetOf, fixedIn, layoutIn, offeredOf, natural}
@@ -38,14 +37,14 @@ acceptedPage b offered demand steps left smr =
     headOf b offered demand ++ tabulate (b .sblimit) (subbandLine (layoutIn b) steps smr) ++ footOf offered left
 
 -- the page from what the budget, the offer, the demand and the allocation answer
-unfoldable pub pageBy : Bool → List (List Float) → FixedBitBudget → ℕ → ℕ → Allocation → List (List ℕ)
-pageBy free smr b offered demand a =
+unfoldable pub pageBy : FrameHeader → List (List Float) → FixedBitBudget → ℕ → ℕ → Allocation → List (List ℕ)
+pageBy h smr b offered demand a =
     cond (eqb (a .number) 0)
     (acceptedPage b offered demand (a .audio .«nb_steps») (a .left) smr)
-    (refusalLine free (a .number) (a .cb) (a .fixed) (a .banc) ∷ [])
+    (refusalLine h (a .number) (a .cb) (a .fixed) (a .banc) ∷ [])
 
 -- the whole page, line by line
 unfoldable pub pageOf : FrameHeader → ℕ → List (List Float) → List (List ℕ)
 pageOf h banc smr =
     let q = plain h banc in
-    pageBy (freeFormat h) smr (budgetOf q .budget) (natural (offeredOf q)) (demandOf h smr .bits) (allocationOf q smr)
+    pageBy h smr (budgetOf q .budget) (natural (offeredOf q)) (demandOf h smr .bits) (allocationOf q smr)

@@ -38,7 +38,7 @@ pub fn page_line(header: FrameHeader, banc: u32, smr_db: [[f64; 32]; 2], n: usiz
         let steps = audio.nb_steps;
         accepted_line(b, offered_bits(b, banc), demand.bits(), steps, a.left as u64, smr_db, n)
     } else if n == 0 {
-        plan_lines::refusal_line(header.is_free_format(), a.number, a.cb, a.fixed, a.banc)
+        plan_lines::refusal_line(header, a.number, a.cb, a.fixed, a.banc)
     } else {
         Line::new()
     }

@@ -3,7 +3,7 @@ use Prim.Native.Nat.{ℕ}
 use mathlib.Core.Path.{_≡_}
 use mathlib.Core.Bool.{Bool, true, false}
 use mathlib.Core.List.{List, [], _∷_, _++_, map}
-use mathlib.Core.Option.{Option, some}
+use mathlib.Core.Option.{Option, none, some}
 use lib.Ieee.{Float}
 use lib.ListN.{length, replicate}
 use Rattle.tables.specs.Decimal.{decimal}
@@ -13,7 +13,7 @@ use Rattle.header.specs.declared.Mode.the-variants.{Stereo, JointStereo, DualCh
 use Rattle.header.specs.declared.ModeExtension.the-variants.{Bound4}
 use Rattle.header.specs.Header.{frameSize}
 use Rattle.bitalloc.specs.declared.BitAllocTable.{BitAllocTable}
-use Rattle.bitalloc.specs.declared.BitAllocTable.the-variants.{B2a, B2b, B2c}
+use Rattle.bitalloc.specs.declared.BitAllocTable.the-variants.{B2a, B2b, B2c, B1Lsf}
 use Rattle.table_selection.specs.Select.{tableOf}
 use Rattle.encoder_scalefactors.specs.Indices.{pickOf}
 use Rattle.encoder_scfsi.specs.Select.{selection}
@@ -125,12 +125,27 @@ cases =
     ∷ case (allocation monoNoCrc (each (decimal 1 0_0)) 631) (allocated 0 (idle 64) 79 0 0 0)
     -- joint stereo with bound 4 at 44100 Hz and 192000 bit/s without a CRC: table B2b, 626 bytes, 142 bits fixed
     ∷ case (budget (frame false 44_100 192_000 JointStereo true)) (budgeted 0 B2b 5008 142)
-    -- stereo at 44100 Hz and 193000 bit/s: an odd number of kbit/s selects no table
-    ∷ case (budget (frame false 44_100 193_000 Stereo true)) (budgeted 1 B2a 0 0)
-    -- single channel at 48000 Hz and 64999 bit/s, which counts as 64 kbit/s: table B2a, 194 bytes, of whose bits 120 are fixed
+    -- stereo at 44100 Hz and 193000 bit/s: off the ladder; an odd number of kbit/s selects no table, and the frame has 630 bytes
+    ∷ case (budget (frame false 44_100 193_000 Stereo true)) (budgeted 16 B2a 0 0)
+    ∷ case (table (frame false 44_100 193_000 Stereo true)) (selected none)
+    ∷ case (bytes (frame false 44_100 193_000 Stereo true)) (sized 0 630)
+    -- single channel at 48000 Hz and 64999 bit/s: off the ladder; it counts as 64 kbit/s and selects table B2a, and the frame has 194 bytes
+    ∷ case (budget (frame false 48_000 64_999 SingleChannel true)) (budgeted 16 B2a 0 0)
+    ∷ case (allocation (frame false 48_000 64_999 SingleChannel true) any 0) (allocated 16 (idle 64) 0 0 0 0)
     ∷ case (table (frame false 48_000 64_999 SingleChannel true)) (selected (some B2a))
     ∷ case (bytes (frame false 48_000 64_999 SingleChannel true)) (sized 0 194)
-    ∷ case (budget (frame false 48_000 64_999 SingleChannel true)) (budgeted 0 B2a 1552 120)
+    -- 64000 bit/s there: 192 bytes, of whose bits 120 are fixed
+    ∷ case (budget (frame false 48_000 64_000 SingleChannel true)) (budgeted 0 B2a 1536 120)
+    -- 144 kbit/s are on the ladder of LSF alone, 384 on the other alone
+    ∷ case (budget (frame true 24_000 144_000 SingleChannel true)) (budgeted 0 B1Lsf 6912 107)
+    ∷ case (budget (frame false 48_000 144_000 SingleChannel true)) (budgeted 16 B2a 0 0)
+    ∷ case (budget (frame false 48_000 384_000 Stereo true)) (budgeted 0 B2a 9216 208)
+    ∷ case (budget (frame true 24_000 384_000 Stereo true)) (budgeted 16 B2a 0 0)
+    -- on the ladder, and no table: 384000 bit/s in single channel
+    ∷ case (budget (frame false 48_000 384_000 SingleChannel true)) (budgeted 1 B2a 0 0)
+    -- free format is on both ladders: a frame that counts no bits beside the fixed ones
+    ∷ case (budget (frame false 48_000 0 SingleChannel true)) (budgeted 0 B2a 0 120)
+    ∷ case (budget (frame true 24_000 0 SingleChannel true)) (budgeted 0 B1Lsf 0 107)
     -- the scalefactor indices 10, 12, 11 become one; 0, 3, 3 stay; 0, 2, 4 become the smallest
     ∷ case (used 10 12 11) (indices (10 ∷ 10 ∷ 10 ∷ []))
     ∷ case (used 0 3 3) (indices (0 ∷ 3 ∷ 3 ∷ []))
@@ -143,6 +158,9 @@ cases =
     -- a sample rate of 0 at 32000 bit/s, in every mode: with LSF there is a table and the sample rate is refused, without there is no table
     ∷ inEachMode (λ mode. case (budget (frame true 0 32_000 mode true)) (budgeted 2 B2a 0 0))
     ++ inEachMode (λ mode. case (budget (frame false 0 32_000 mode true)) (budgeted 1 B2a 0 0))
+    -- and at 33000 bit/s, off the ladder, which is asked first
+    ++ inEachMode (λ mode. case (budget (frame true 0 33_000 mode true)) (budgeted 16 B2a 0 0))
+    ++ inEachMode (λ mode. case (budget (frame false 0 33_000 mode true)) (budgeted 16 B2a 0 0))
 
 -- ---- the claim
 

@@ -29,13 +29,17 @@ pub fn accepted() {
     show::numbers(b"44100 Hz, stereo, 192000 bit/s:", &[0, 2, 626, 220, 4788], &stereo);
     let joint = answers(frame(false, 44_100, 192_000, Mode::JointStereo));
     show::numbers(b"in joint stereo with bound 4:", &[0, 2, 626, 142, 4866], &joint);
-    let mono = answers(frame(false, 48_000, 64_999, Mode::SingleChannel));
-    show::numbers(b"48000 Hz, single channel, 64999 bit/s:", &[0, 1, 194, 120, 1432], &mono);
+    let mono = answers(frame(false, 48_000, 64_000, Mode::SingleChannel));
+    show::numbers(b"48000 Hz, single channel, 64000 bit/s:", &[0, 1, 192, 120, 1416], &mono);
 }
 
 pub fn refused() {
+    let rounded = answers(frame(false, 48_000, 64_999, Mode::SingleChannel));
+    show::numbers(b"64999 bit/s:", &[16, 1, 194, 0, 0], &rounded);
     let odd = answers(frame(false, 44_100, 193_000, Mode::Stereo));
-    show::numbers(b"44100 Hz, stereo, 193000 bit/s:", &[1, 0, 630, 0, 0], &odd);
+    show::numbers(b"44100 Hz, stereo, 193000 bit/s:", &[16, 0, 630, 0, 0], &odd);
+    let high = answers(frame(false, 44_100, 384_000, Mode::SingleChannel));
+    show::numbers(b"44100 Hz, single channel, 384000 bit/s:", &[1, 0, 1253, 0, 0], &high);
     let lsf = answers(frame(true, 0, 32_000, Mode::SingleChannel));
     show::numbers(b"0 Hz, single channel, 32000 bit/s, LSF:", &[2, 5, 0, 0, 0], &lsf);
     let no_rate = answers(frame(false, 0, 32_000, Mode::SingleChannel));

@@ -8,6 +8,7 @@ use crate::scalefactor_functions::frame_of;
 use crate::timing::{Row, Times, measure, table};
 use questions::allocation_kinds::ratios_of;
 use questions::heads::{Head, header_of};
+use questions::ladder::on_ladder;
 use questions::random::Random;
 use questions::ratios::SLOTS;
 use reference::bitalloc::{class_of_quantization, select_table};
@@ -55,6 +56,10 @@ pub fn bench(words: &[String]) -> bool {
 }
 
 fn by_header(sets: Vec<Vec<u64>>, time: fn(&Head, &[u64]) -> Times) -> Vec<Row> {
+    assert!(
+        HEADS.iter().all(|(_, head)| on_ladder(head)),
+        "a header that is timed is refused"
+    );
     let row = |(label, head): &(&str, Head)| Row {
         label: label.to_string(),
         sets: sets.iter().map(|set| time(head, set)).collect(),

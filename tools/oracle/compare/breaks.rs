@@ -1,11 +1,15 @@
-//! Wrong answers on purpose: one for each function, one for each rule of an allocation.
+//! Wrong answers on purpose: one for each function, some about the ladder, one for each rule of an
+//! allocation.
 
 use crate::allocation_functions::ALLOCATE;
 use crate::case::{Case, Function, OUT_OF_RANGE, Reply, SHORT_SLICE};
+use crate::header_functions::{BANC, refusal_on_ladder};
 use crate::judge::{ANSWER, Break};
 use crate::layout::Field;
 use crate::rules::{Held, LAYOUT, PART_2, PART_3, PART_4, ROW, SHARED};
-use questions::ratios::SUBBANDS;
+use questions::heads::{BIT_RATE, LSF};
+use questions::ladder::{OFF_LADDER, ladder};
+use questions::ratios::{SLOTS, SUBBANDS};
 
 /// Where a slice is read, the answer of a function is spoilt only if this double is not 0.
 pub const READ: usize = 5;
@@ -18,6 +22,7 @@ pub fn breaks(functions: &[Function]) -> Vec<Break> {
         change: spoil,
     };
     let mut breaks: Vec<Break> = functions.iter().map(of_function).collect();
+    breaks.extend(LADDER);
     breaks.extend([
         answer("short", |_, _, reply| {
             renumber(reply, SHORT_SLICE, OUT_OF_RANGE)
@@ -51,6 +56,56 @@ pub fn breaks(functions: &[Function]) -> Vec<Break> {
 }
 
 type Change = fn(&Function, &Case, &mut Reply);
+
+/// 1 for 16 in each function that asks for the ladder; 16 for a rate on it, behind 1 and 2, and with
+/// something beside it.
+const LADDER: [Break; 7] = [
+    ladder_of("budget_ladder", "fixed_bit_budget", no_table_instead),
+    ladder_of("offer_ladder", "available_data_bits", no_table_instead),
+    ladder_of("demand_ladder", "demand_bits", no_table_instead),
+    ladder_of("ladder", ALLOCATE, no_table_instead),
+    ladder_of("ladder_top", ALLOCATE, refuse_top),
+    ladder_of("ladder_late", ALLOCATE, ask_ladder_last),
+    ladder_of("ladder_filler", ALLOCATE, write_beside),
+];
+
+const fn ladder_of(name: &'static str, function: &'static str, change: Change) -> Break {
+    Break {
+        name,
+        function,
+        difference: ANSWER,
+        change,
+    }
+}
+
+fn no_table_instead(_: &Function, _: &Case, reply: &mut Reply) {
+    renumber(reply, OFF_LADDER, 1);
+}
+
+/// Refuses the largest rate of the ladder as if it were off it.
+fn refuse_top(_: &Function, case: &Case, reply: &mut Reply) {
+    let [lsf, bit_rate] = [LSF, BIT_RATE].map(|at| case.numbers[at]);
+    if reply.number == 0 && ladder(lsf).last() == Some(&bit_rate) {
+        reply.number = OFF_LADDER;
+        (0..SLOTS).for_each(|slot| reply.memories[0].put(4, slot, 0));
+        set_left(0, reply);
+    }
+}
+
+/// As if the ladder were asked for behind table and sample rate.
+fn ask_ladder_last(_: &Function, case: &Case, reply: &mut Reply) {
+    if reply.number == OFF_LADDER {
+        let other = refusal_on_ladder(&case.numbers);
+        reply.number = if other == 0 { OFF_LADDER } else { other };
+    }
+}
+
+/// The banc beside 16, where a 0 belongs.
+fn write_beside(_: &Function, case: &Case, reply: &mut Reply) {
+    if reply.number == OFF_LADDER {
+        reply.memories[1].put(4, 3, case.numbers[BANC]);
+    }
+}
 
 fn answer(name: &'static str, change: Change) -> Break {
     rule(name, ANSWER, change)

@@ -4,8 +4,9 @@ use crate::case::{Argument, Case, Function, Memories, Out, Sort};
 use crate::library::*;
 use questions::budget_kinds::{answer_budget, draw_banc, offered};
 use questions::heads::*;
+use questions::ladder::{OFF_LADDER, draw_on_ladder, on_ladder};
 use questions::random::Random;
-use questions::served::{LARGEST_FRAME, absurd, draw, unserved};
+use questions::served::{absurd, draw, draw_any, off_ladder, unserved};
 use questions::table_kinds::number_of;
 use reference::bitalloc::select_table;
 use reference::encoder_bit_allocator::available_data_bits;
@@ -58,7 +59,7 @@ pub const FUNCTIONS: [Function; 4] = [
         arguments: HEAD,
         doubles: 0,
         outs: &[out(4, 1)],
-        draw: draw_head,
+        draw: draw_any_rates,
         library: |case, [out, _]| {
             call_with_head!(
                 folgrist_select_table,
@@ -79,7 +80,7 @@ pub const FUNCTIONS: [Function; 4] = [
         arguments: HEAD,
         doubles: 0,
         outs: &[out(8, 1)],
-        draw: draw_head,
+        draw: draw_any_rates,
         library: |case, [out, _]| {
             call_with_head!(
                 folgrist_frame_size_bytes,
@@ -142,16 +143,22 @@ pub const BANC: usize = 7;
 
 const NO_TABLE: u32 = 1;
 const ZERO_SAMPLE_RATE: u32 = 2;
-const FRAME_TOO_LARGE: u32 = 3;
 
 /// The number of the first question that the header fails, 0 for none.
 pub fn refusal(head: &[u64]) -> u32 {
+    if on_ladder(head) {
+        refusal_on_ladder(head)
+    } else {
+        OFF_LADDER
+    }
+}
+
+/// The same without the question of the ladder.
+pub fn refusal_on_ladder(head: &[u64]) -> u32 {
     if select_table(&header_of(head)).is_none() {
         NO_TABLE
     } else if head[SAMPLE_RATE] == 0 {
         ZERO_SAMPLE_RATE
-    } else if frame_bytes(head) > LARGEST_FRAME {
-        FRAME_TOO_LARGE
     } else {
         0
     }
@@ -187,28 +194,45 @@ fn answer_available(case: &Case, [out, _]: &mut Memories) -> u32 {
 /// The odd headers of the lists.
 static ODD_HEADS: LazyLock<Vec<Head>> = LazyLock::new(|| {
     let random = &mut Random::new(1, 0, 0);
-    [absurd(random), unserved(random)].concat()
+    [absurd(random), unserved(random), off_ladder(random)].concat()
 });
 
-/// Mostly one that is served; often one of rates at or beside the ladders, or any.
-pub fn draw_head(case: &mut Case, random: &mut Random) {
+fn odd_head(random: &mut Random) -> Head {
+    ODD_HEADS[random.below(ODD_HEADS.len() as u64) as usize]
+}
+
+/// For what does not ask for the ladder: half of them with rates of all sorts.
+fn draw_any_rates(case: &mut Case, random: &mut Random) {
     let head = match random.below(12) {
-        0..=5 => draw(random),
-        6..=9 => any_head(random),
-        10 => ODD_HEADS[random.below(ODD_HEADS.len() as u64) as usize],
-        _ => about_largest(random),
+        0..=3 => draw(random),
+        4..=9 => any_head(random),
+        10 => odd_head(random),
+        _ => largest(random),
     };
     case.numbers[..7].copy_from_slice(&head);
 }
 
-/// A frame about the largest whose bits fit, or a sample rate of 0.
-fn about_largest(random: &mut Random) -> Head {
+/// Some three of four on the ladder: mostly one that is served, often any other.
+pub fn draw_head(case: &mut Case, random: &mut Random) {
+    let head = match random.below(24) {
+        0..=12 => draw(random),
+        13..=20 => draw_any(random),
+        21 => odd_head(random),
+        _ => largest(random),
+    };
+    case.numbers[..7].copy_from_slice(&head);
+}
+
+/// The largest frames of rates on the ladder, larger ones off it, and sample rate 0.
+fn largest(random: &mut Random) -> Head {
     let mut head = any_head(random);
     head[LSF] = random.pick(&[0, 1, 1, 1]);
-    head[SAMPLE_RATE] = random.pick(&[0, 1, 2, 144, 288]);
-    let bytes = LARGEST_FRAME - 2 + random.below(5);
-    let bit_rate = (bytes * head[SAMPLE_RATE]).div_ceil(144) + random.below(3);
-    head[BIT_RATE] = bit_rate.min(u32::MAX.into());
+    head[SAMPLE_RATE] = random.pick(&[0, 1, 2, 3, 144]);
+    head[BIT_RATE] = match random.below(5) {
+        // About the first frame whose bits do not fit 32 bits.
+        0 => 3_728_270 * head[SAMPLE_RATE] + random.below(2),
+        _ => draw_on_ladder(head[LSF], random),
+    };
     head
 }
 

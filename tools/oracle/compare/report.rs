@@ -86,7 +86,7 @@ impl Counts {
 
 /// One line for each function that was asked.
 pub fn table(functions: &[Function], counts: &[Counts]) -> String {
-    let columns = [0, 1, 2, 3, 4, 5, 14, 97, 98];
+    let columns = [0, 1, 2, 4, 5, 14, 16, 97, 98];
     let names = columns.map(|number| format!("answer {number}")).join(" | ");
     let mut text = format!(
         "| function | cases | {names} |\n|---|{}\n",

@@ -10,6 +10,7 @@ use Rattle.header.specs.Header.{frameSize}
 use Rattle.bitalloc.specs.declared.BitAllocTable.the-variants.{B2c}
 use Rattle.tables.specs.Scalefactors.{scalefactors}
 use Rattle.tables.specs.Search.{oneOf}
+use Rattle.ladder.specs.Ladder.{onLadder, ladder, lsfLadder}
 use Rattle.bitalloc.specs.Tables.{nbalOf, rowOf}
 use Rattle.quantization.specs.Classes.{sampleBits}
 use Rattle.table_selection.specs.Select.{tableOf}
@@ -46,7 +47,7 @@ dear smr f h = ltb→lt 0 _ (below 8 (λ f. ltb 0 (price (rules smr) f 0)) tt f 
 
 -- so that nothing is bought
 filled : (smr : List (List Float)) → answerTo smr (allocation mono any 694) ≡ allocated 0 (idle 64) 0 0 0 0
-unfolding answerTo oneOf tableOf nbalOf rowOf layoutOf fieldsOf budgetOf allocationOf
+unfolding answerTo oneOf onLadder ladder lsfLadder tableOf nbalOf rowOf layoutOf fieldsOf budgetOf allocationOf
 filled smr =
     let n = end-untouched (rules smr) 0 (dear smr) in
     ap₂ (λ (places : List ℕ) (left : ℕ). allocated 0 (stepsOf laid places) left 0 0 0) (n .0) (n .1)
@@ -55,11 +56,11 @@ filled smr =
 
 -- the cases before and behind it: antt computes the answers
 first-case : Hold (take 1 cases)
-unfolding cases Hold answerTo oneOf tableOf nbalOf layoutOf fieldsOf budgetOf
+unfolding cases Hold answerTo oneOf onLadder ladder lsfLadder tableOf nbalOf layoutOf fieldsOf budgetOf
 first-case smr = refl
 
 other-cases : Hold (drop 2 cases)
-unfolding cases Hold answerTo ended oneOf tableOf nbalOf rowOf sampleBits snrOf layoutOf fieldsOf budgetOf frameSize filler allocationOf selection scalefactors pickOf le sub
+unfolding cases Hold answerTo ended oneOf onLadder ladder lsfLadder tableOf nbalOf rowOf sampleBits snrOf layoutOf fieldsOf budgetOf frameSize filler allocationOf selection scalefactors pickOf le sub
 other-cases smr = refl
 
 holds : Hold cases

@@ -36,7 +36,7 @@ returns c =
     let s = z .before in
     let t = textOf (z .new .result) in
     alone _ (z .new .ensures) (more t _ _ (more t _ _ (more t _ _ (n .before .text .ensures) (n .number .ensures)) (c .before .text2 .ensures)) (c .reason .ensures))
-    (refusal-length (s .args .free) (s .args .number) (s .args .cb) (s .args .fixed) (s .args .banc))
+    (refusal-length (s .args .header) (s .args .number) (s .args .cb) (s .args .fixed) (s .args .banc))
 
 pub refusal-line-spec : {M : Type 1} → statement M
 refusal-line-spec =

@@ -27,9 +27,6 @@ cast-accepted-line c = search needs
 accepted-line-requires : tie.Need-accepted-line-requires
 accepted-line-requires c κs = search needs
 
-is-free-format-requires : tie.Need-is-free-format-requires
-is-free-format-requires c κs = search needs
-
 refusal-line-requires : tie.Need-refusal-line-requires
 refusal-line-requires c κs = search needs
 
@@ -46,9 +43,9 @@ returns c =
 
 returns-2 : tie.Need-returns-2
 returns-2 c =
-    let t = c .before .before in
+    let t = c .before in
     let a = t .before .before .before in
-    line-refused _ _ _ (a .allocate-bits .result) (a .allocate-bits .ensures .whole) _ _ _ (c .before .is-free-format .ensures) (t .before .if1 .left) (t .if2 .taken) (c .refusal-line .ensures)
+    line-refused _ _ _ (a .allocate-bits .result) (a .allocate-bits .ensures .whole) _ _ (t .before .if1 .left) (t .if2 .taken) (c .refusal-line .ensures)
 
 returns-3 : tie.Need-returns-3
 returns-3 c =
@@ -67,7 +64,6 @@ page-line-spec =
     bits-requires
     cast-accepted-line
     accepted-line-requires
-    is-free-format-requires
     refusal-line-requires
     new-requires
     returns
