@@ -36,8 +36,8 @@ struct arguments {
 /* The seven arguments of a header, in their order. */
 #define HEADER(a) (a)->lsf, (a)->bit_rate, (a)->sample_rate, (a)->padding, (a)->protection_bit, (a)->mode, (a)->mode_extension
 
-/* A function's arrays: one that is read, one that is written before `out`, and `out`. */
-enum array { READ, FIRST, OUT, ARRAYS };
+/* A function's arrays: one that is read, one that is written before `out`, and `out`; and two more that are read. */
+enum array { READ, FIRST, OUT, READ_2, READ_3, ARRAYS };
 
 static double input[1160];
 
@@ -54,6 +54,13 @@ static union memory {
 
 /* What the memory holds before a call. */
 #define FILL 0xA5
+
+/* The record of side information that is read. */
+static struct side_info {
+    uint32_t steps[64 + SPARE];
+    uint8_t scfsi[64 + SPARE];
+    uint8_t index[192 + SPARE];
+} record;
 
 struct function {
     const char *name;
@@ -435,6 +442,113 @@ static void check_allocate_bits(void)
     done(f.name);
 }
 
+/* ---- the side information ---- */
+
+/* No steps; behind the record what no function may read. */
+static void read_idle_record(void)
+{
+    memset(&record, 0, sizeof record);
+    memset(record.steps + 64, 0xFF, SPARE * sizeof record.steps[0]);
+    memset(record.scfsi + 64, 0xFF, SPARE);
+    memset(record.index + 192, 0xFF, SPARE);
+}
+
+static void read_slot(size_t slot, uint32_t steps, uint8_t scfsi, uint8_t a, uint8_t b, uint8_t c)
+{
+    record.steps[slot] = steps;
+    record.scfsi[slot] = scfsi;
+    record.index[3 * slot] = a;
+    record.index[3 * slot + 1] = b;
+    record.index[3 * slot + 2] = c;
+}
+
+static uint32_t call_write_side_info(const struct arguments *a, const size_t *length)
+{
+    return folgrist_write_side_info(HEADER(a), record.steps, length[READ], record.scfsi, length[READ_2], record.index, length[READ_3],
+                                    first.bytes, length[FIRST], out.words, length[OUT]);
+}
+
+static const struct function write_side_info = {"write_side_info",
+                                                {64, 174, 1, 64, 192},
+                                                {sizeof(uint32_t), 1, sizeof(uint32_t), 1, 1},
+                                                call_write_side_info};
+
+/* Nothing is allocated; slots send what their scfsi says; a slot that is idle or that the frame does not carry sends nothing. */
+static void expect_records_written(void)
+{
+    static const uint8_t none[174] = {0};
+    static const uint32_t idle = 26, two_slots = 48, shared = 175;
+    /* 26 bits of allocation, 0100 0000 111 and zeros; scfsi 01 10; indices 3, 62 and 21 */
+    static const uint8_t in_mono[174] = {0x40, 0xE0, 0x00, 0x18, 0x3F, 0x95};
+    /* 141 bits of allocation, of which 94 to 96 are 010; scfsi 11 00; indices 5, 6 and 7, 8, 9 */
+    static const uint8_t in_joint[174] = {0, 0, 0, 0, 0, 0, 0, 0, 0, 0, 0, 0x01, 0, 0, 0, 0, 0, 0x06, 0x0A, 0x30, 0xE4, 0x12};
+    struct arguments a = mono();
+
+    read_idle_record();
+    expect(&write_side_info, &a, FOLGRIST_ACCEPTED, none, &idle);
+    read_slot(0, 15, FOLGRIST_SHARE_01_THEN_2, 3, 3, 62);
+    read_slot(2, 127, FOLGRIST_SHARE_ALL, 21, 21, 21);
+    read_slot(7, 0, FOLGRIST_SHARE_0_THEN_12, 255, 63, 63);
+    read_slot(8, 4, FOLGRIST_SHARE_ALL, 255, 255, 255);
+    read_slot(32, 15, FOLGRIST_SHARE_ALL, 1, 1, 1);
+    expect(&write_side_info, &a, FOLGRIST_ACCEPTED, in_mono, &two_slots);
+    a = joint();
+    read_idle_record();
+    read_slot(12, 5, FOLGRIST_SHARE_0_THEN_12, 5, 6, 6);
+    read_slot(44, 5, FOLGRIST_THREE_PER_GRANULE, 7, 8, 9);
+    expect(&write_side_info, &a, FOLGRIST_ACCEPTED, in_joint, &shared);
+}
+
+/* A record that is refused, beside zeros. */
+static void expect_record_refused(const struct arguments *a, uint32_t number)
+{
+    static const uint32_t zeros[64] = {0};
+
+    expect(&write_side_info, a, number, zeros, zeros);
+}
+
+/* 6, then 7 of a field, field by field; then 8, also of an index that is not sent. */
+static void expect_records_refused(void)
+{
+    const struct arguments a = joint(), b = mono();
+
+    read_idle_record();
+    record.steps[12] = 5;
+    expect_record_refused(&a, FOLGRIST_SHARED_STEPS_DIFFER);
+    record.steps[12] = 4;
+    expect_record_refused(&a, FOLGRIST_SHARED_STEPS_DIFFER);
+    record.steps[11 + 32] = 4;
+    expect_record_refused(&a, FOLGRIST_STEPS_NOT_IN_ROW);
+    read_idle_record();
+    record.steps[12] = record.steps[44] = 4;
+    record.steps[13] = 5;
+    expect_record_refused(&a, FOLGRIST_STEPS_NOT_IN_ROW);
+    read_idle_record();
+    read_slot(2, 127, FOLGRIST_SHARE_ALL, 21, 63, 21);
+    expect_record_refused(&b, FOLGRIST_INDEX_NOT_TABLED);
+    record.steps[7] = 7;
+    expect_record_refused(&b, FOLGRIST_STEPS_NOT_IN_ROW);
+    expect_refused_headers(&write_side_info);
+}
+
+static void check_write_side_info(void)
+{
+    const struct arguments a = mono();
+    size_t slot;
+
+    expect_records_written();
+    expect_records_refused();
+    for (slot = 0; slot < 64; slot += 21) {
+        read_idle_record();
+        record.scfsi[slot] = 4;
+        record.steps[0] = 4;
+        expect(&write_side_info, &a, FOLGRIST_BAD_ARGUMENT, NULL, NULL);
+    }
+    read_idle_record();
+    expect_bad_headers(&write_side_info);
+    done(write_side_info.name);
+}
+
 /* ---- the allocation tables ---- */
 
 /* The arguments of a table, a subband, and steps or a place. */
@@ -734,6 +848,7 @@ int main(void)
     check_available_data_bits();
     check_demand_bits();
     check_allocate_bits();
+    check_write_side_info();
     check_table_limits();
     check_nb_steps();
     check_allocation_index();

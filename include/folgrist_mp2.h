@@ -14,7 +14,8 @@
  * aligned and valid for the length given, and an array that is written may not overlap another. The pointer may not be null, even of length 0.
  *
  * Order. FOLGRIST_SHORT_SLICE is asked first, then FOLGRIST_BAD_ARGUMENT, then FOLGRIST_NOTHING_THERE; with these three nothing is written.
- * Then FOLGRIST_RATE_OFF_LADDER, and then the others by their numbers.
+ * Then FOLGRIST_RATE_OFF_LADDER, and then the others by their numbers; but FOLGRIST_SHARED_STEPS_DIFFER and FOLGRIST_STEPS_NOT_IN_ROW are asked
+ * together, field by field in the order of the bitstream.
  * With any other number everything is written: beside a number that is not 0 stand zeros, but for what the comment says.
  *
  * Header. Seven arguments, the same in each function that has them:
@@ -43,24 +44,27 @@
 extern "C" {
 #endif
 
-/* The version of what is declared here; folgrist_version() has that of the archive. A change of a signature or of an answer raises the
- * minor number. 1.1: FOLGRIST_RATE_OFF_LADDER. */
+/* The version of what is declared here; folgrist_version() has that of the archive. A new function, or a change of a signature or of an
+ * answer, raises the minor number. 1.1: FOLGRIST_RATE_OFF_LADDER. 1.2: folgrist_write_side_info. */
 #define FOLGRIST_VERSION_MAJOR 1
-#define FOLGRIST_VERSION_MINOR 1
+#define FOLGRIST_VERSION_MINOR 2
 #define FOLGRIST_VERSION_PATCH 0
 
 /* The numbers of answers. */
 enum folgrist_answer {
     FOLGRIST_ACCEPTED = 0,
-    FOLGRIST_NO_TABLE = 1,           /* no allocation table covers the header's rates */
-    FOLGRIST_ZERO_SAMPLE_RATE = 2,   /* the sample rate is 0 */
-    FOLGRIST_FRAME_TOO_LARGE = 3,    /* never given since 1.1: at a rate on the ladder the frame's bits fit 32 bits */
-    FOLGRIST_INSUFFICIENT_FRAME = 4, /* the fixed bits and the caller's are more than the frame has */
-    FOLGRIST_NO_CLASS = 5,           /* the steps are none of the seventeen classes of quantization */
-    FOLGRIST_BAD_ARGUMENT = 14,      /* a flag above 1, a mode or extension above 3, a table above 4 */
-    FOLGRIST_RATE_OFF_LADDER = 16,   /* the bit rate is neither 0 nor on the header's ladder */
-    FOLGRIST_NOTHING_THERE = 97,     /* a place outside the row, or steps that the row does not have */
-    FOLGRIST_SHORT_SLICE = 98        /* an array is shorter than the function asks */
+    FOLGRIST_NO_TABLE = 1,            /* no allocation table covers the header's rates */
+    FOLGRIST_ZERO_SAMPLE_RATE = 2,    /* the sample rate is 0 */
+    FOLGRIST_FRAME_TOO_LARGE = 3,     /* never given since 1.1: at a rate on the ladder the frame's bits fit 32 bits */
+    FOLGRIST_INSUFFICIENT_FRAME = 4,  /* the fixed bits and the caller's are more than the frame has */
+    FOLGRIST_NO_CLASS = 5,            /* the steps are none of the seventeen classes of quantization */
+    FOLGRIST_SHARED_STEPS_DIFFER = 6, /* an allocation field serves both channels, and their steps differ */
+    FOLGRIST_STEPS_NOT_IN_ROW = 7,    /* the steps of a field are not in its subband's row */
+    FOLGRIST_INDEX_NOT_TABLED = 8,    /* a scalefactor index above 62 where something is allocated */
+    FOLGRIST_BAD_ARGUMENT = 14,       /* a flag above 1, a mode or extension above 3, a table above 4, a scfsi above 3 */
+    FOLGRIST_RATE_OFF_LADDER = 16,    /* the bit rate is neither 0 nor on the header's ladder */
+    FOLGRIST_NOTHING_THERE = 97,      /* a place outside the row, or steps that the row does not have */
+    FOLGRIST_SHORT_SLICE = 98         /* an array is shorter than the function asks */
 };
 
 enum folgrist_mode {
@@ -137,6 +141,19 @@ uint32_t folgrist_demand_bits(uint8_t lsf, uint32_t bit_rate, uint32_t sample_ra
 uint32_t folgrist_allocate_bits(uint8_t lsf, uint32_t bit_rate, uint32_t sample_rate, uint8_t padding, uint8_t protection_bit, uint8_t mode,
                                 uint8_t mode_extension, uint32_t banc, const double *smr_db, size_t smr_db_len, uint32_t *steps,
                                 size_t steps_len, uint32_t *out, size_t out_len);
+
+/* ---- the side information ---- */
+
+/* The side information of the header's frame as bits: allocation, scfsi and scalefactors in the order of ISO/IEC 11172-3 2.4.1.6. Its record is
+ * three arrays. steps, 64 elements by slot: as folgrist_allocate_bits writes them. scfsi, 64 elements by slot: enum folgrist_scfsi; a code above 3
+ * is answered FOLGRIST_BAD_ARGUMENT in every slot. index, 192 elements, at 3 * slot + granule: scalefactor indices. Steps and indices of a
+ * slot that the frame does not carry are not asked about, nor are indices where the steps are 0. bytes, 174 elements: the bits, most significant
+ * first; behind the last of them all bits are 0. out, 1 element: the number of bits, 1388 at most.
+ * Answers 0, 1, 2, 6, 7, 8, 14, 16, 98. */
+uint32_t folgrist_write_side_info(uint8_t lsf, uint32_t bit_rate, uint32_t sample_rate, uint8_t padding, uint8_t protection_bit,
+                                  uint8_t mode, uint8_t mode_extension, const uint32_t *steps, size_t steps_len, const uint8_t *scfsi,
+                                  size_t scfsi_len, const uint8_t *index, size_t index_len, uint8_t *bytes, size_t bytes_len, uint32_t *out,
+                                  size_t out_len);
 
 /* ---- the allocation tables ---- */
 

@@ -1,6 +1,7 @@
 #!/usr/bin/env bash
 # Builds the oracle around the unchanged Rust in RUST_FOLDER/src and runs it.
-# The build lies in target/oracle; nothing is fetched, and nothing of the Rust is copied.
+# The build lies in target/oracle; nothing is fetched. Of the Rust only audio_data.rs is copied, to
+# there.
 set -eu
 
 usage() {
@@ -33,9 +34,13 @@ while [ "$#" -gt 0 ]; do
 done
 
 # The Rust's files are the modules of one crate; they name one another by `crate::`.
+# The writers of audio_data.rs are private: to its text, as it is, a public function is added.
+cat "$rust/src/audio_data.rs" "$tool/writers.rs" >"$out/audio_data.rs"
 for module in tables header bitalloc audio_data encoder_bit_allocator \
     encoder_scalefactors encoder_scfsi encoder_samples; do
-    printf '#[path = "%s/src/%s.rs"]\npub mod %s;\n' "$rust" "$module" "$module"
+    file=$rust/src/$module.rs
+    [ "$module" != audio_data ] || file=$out/audio_data.rs
+    printf '#[path = "%s"]\npub mod %s;\n' "$file" "$module"
 done >"$out/reference.rs"
 
 # As in a release build: overflow wraps and debug assertions are not asked.
@@ -57,7 +62,13 @@ compare | selfcheck | bench)
         echo "run.sh: make it by 'rt staticlib folgrist_mp2', or name one by --archive PATH" >&2
         exit 2
     fi
+    # For the bench the same Rust once more, on a writer that packs as it goes.
+    packing=$out/libpacking.rlib
+    build --crate-name packing --crate-type rlib "${core[@]}" "$tool/packing.rs"
+    build --crate-name packed --crate-type rlib --cap-lints allow \
+        --extern oxideav_core="$packing" "$out/reference.rs"
     build --crate-name compare "${core[@]}" "${reference[@]}" "${questions[@]}" \
+        --extern packing="$packing" --extern packed="$out/libpacked.rlib" \
         -C link-arg="$archive" "$tool/compare/main.rs"
     exec "$out/compare" "${words[@]}"
     ;;

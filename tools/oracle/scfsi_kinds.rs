@@ -66,7 +66,7 @@ fn pattern_of(a: &[u64]) -> TransmissionPattern {
     }
 }
 
-fn scfsi_of(number: u64) -> Scfsi {
+pub fn scfsi_of(number: u64) -> Scfsi {
     match number {
         0 => Scfsi::ThreePerGranule,
         1 => Scfsi::Share01Then2,

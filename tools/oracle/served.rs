@@ -31,7 +31,7 @@ const FASTEST: u64 = 160_000;
 
 const TOP: u64 = u32::MAX as u64;
 
-const JOINT: u64 = 1;
+pub const JOINT: u64 = 1;
 pub const SINGLE: u64 = 3;
 
 /// The budget, or nothing off the ladder and where the Rust refuses or halts.

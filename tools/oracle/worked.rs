@@ -1,4 +1,5 @@
-//! Headers whose budgets were worked out by hand, with what is expected.
+//! Headers whose budgets were worked out by hand, and records whose bits were, with what is
+//! expected.
 
 use crate::heads::Head;
 
@@ -84,5 +85,110 @@ pub const REFUSED: [(&str, Head); 11] = [
     (
         "sample rate 0, 33000 bit/s, without LSF: answer 16, not 1",
         [0, 33_000, 0, 0, 1, 3, 0],
+    ),
+];
+
+/// 48000 Hz, joint, bound 4, 192000 bit/s, no CRC or padding: table B2a.
+const JOINT: Head = [0, 192_000, 48_000, 0, 1, 1, 0];
+
+/// A record of side information with what is not 0 in it.
+pub struct Worked {
+    pub words: &'static str,
+    pub head: Head,
+    /// Slot and steps.
+    pub steps: &'static [(usize, u64)],
+    /// Slot, scfsi and its three indices.
+    pub parts: &'static [(usize, u64, [u64; 3])],
+}
+
+const fn small(
+    words: &'static str,
+    steps: &'static [(usize, u64)],
+    parts: &'static [(usize, u64, [u64; 3])],
+) -> Worked {
+    Worked {
+        words,
+        head: SMALL,
+        steps,
+        parts,
+    }
+}
+
+const fn joint(
+    words: &'static str,
+    steps: &'static [(usize, u64)],
+    parts: &'static [(usize, u64, [u64; 3])],
+) -> Worked {
+    Worked {
+        words,
+        head: JOINT,
+        steps,
+        parts,
+    }
+}
+
+/// What is written. B2c has 26 bits of allocation in one channel, B2a with bound 4 has 104.
+pub const WRITTEN: [Worked; 12] = [
+    small(
+        "48000 Hz, single, 32000 bit/s, 3 steps in subband 0, scfsi 10, index 5: 34 bits, \
+         the bytes 16 0 0 33 64",
+        &[(0, 3)],
+        &[(0, 2, [5, 5, 5])],
+    ),
+    small(
+        "the same with scfsi 11 and the indices 5 9 9: 40 bits, the bytes 16 0 0 49 73",
+        &[(0, 3)],
+        &[(0, 3, [5, 9, 9])],
+    ),
+    small(
+        "4 steps in subband 8 and in channel 1, and index 63 there: 26 bits, all 0",
+        &[(8, 4), (32, 4)],
+        &[(8, 3, [63, 63, 63]), (32, 3, [63, 63, 63])],
+    ),
+    joint(
+        "48000 Hz, joint, bound 4, 192000 bit/s, 5 steps in subband 4, scfsi 10, indices 1 and 2: \
+         120 bits, byte 4 is 32, bytes 13 and 14 are 160 and 66, the rest 0",
+        &[(4, 5), (36, 5)],
+        &[(4, 2, [1, 1, 1]), (36, 2, [2, 2, 2])],
+    ),
+    joint(
+        "3 and 5 steps in subband 3, below the bound, scfsi 10: 120 bits",
+        &[(3, 3), (35, 5)],
+        &[(3, 2, [0, 0, 0]), (35, 2, [0, 0, 0])],
+    ),
+    joint(
+        "4 steps in subband 3, 3 and 5 in subband 4: answer 7",
+        &[(3, 4), (4, 3), (36, 5)],
+        &[],
+    ),
+    joint(
+        "3 and 5 steps in subband 4, 4 in subband 5: answer 6",
+        &[(4, 3), (36, 5), (5, 4), (37, 4)],
+        &[],
+    ),
+    joint(
+        "4 and 3 steps in subband 4: answer 6, not 7",
+        &[(4, 4), (36, 3)],
+        &[],
+    ),
+    joint(
+        "3 and 4 steps in subband 4: answer 6, not 7",
+        &[(4, 3), (36, 4)],
+        &[],
+    ),
+    joint(
+        "4 steps in both channels of subband 4, index 63 in subband 0: answer 7, not 8",
+        &[(0, 3), (4, 4), (36, 4)],
+        &[(0, 0, [63, 0, 0])],
+    ),
+    joint(
+        "index 63 in subband 0, which has no steps: 104 bits, all 0",
+        &[],
+        &[(0, 0, [63, 63, 63])],
+    ),
+    joint(
+        "3 steps in subband 0, scfsi 10 and the indices 0 63 0: answer 8, though 63 is not sent",
+        &[(0, 3)],
+        &[(0, 2, [0, 63, 0])],
     ),
 ];

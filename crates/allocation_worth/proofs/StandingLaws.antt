@@ -11,12 +11,13 @@ use Rattle.bitalloc.specs.Tables.{rowOf, stepsAt, indexOf}
 use Rattle.bitalloc.proofs.RowLaws.{index-of-steps}
 use Rattle.layout.specs.declared.Layout.{Layout}
 use Rattle.layout.specs.declared.AllocationField.{AllocationField}
-use Rattle.layout.specs.Layout.{own, fieldsOf, fieldIn}
+use Rattle.bitalloc.specs.Options.{orZero}
+use Rattle.layout.specs.Layout.{own, fieldsOf, fieldIn, fieldSteps}
 use Rattle.layout.proofs.FieldLaws.{serves-first}
 use Rattle.allocation_rounds.specs.Rounds.{placeIn}
 use Rattle.allocation_run.specs.Steps.{stepsOf}
 use Rattle.allocation_run.proofs.HeldLaws.{slot-steps}
-use Rattle.allocation_worth.specs.Worth.{fieldSteps, standing, orBottom, placesFrom}
+use Rattle.allocation_worth.specs.Worth.{standing, placesFrom}
 
 module _ (l : Layout) (places : List ℕ) (f : ℕ) (h : f < length (fieldsOf l)) where
   abbrev x : AllocationField
@@ -30,8 +31,8 @@ module _ (l : Layout) (places : List ℕ) (f : ℕ) (h : f < length (fieldsOf l)
   unfolding indexOf stepsAt
   stands-at b =
       let row = rowOf (l .table) (x .subband) in
-      ap (λ (m : ℕ). orBottom (place (λ k. eqb k m) row)) field-steps
-      ∙ ap orBottom (index-of-steps (l .table) (x .subband) (placeIn places f) (getD row (placeIn places f) 0) (there row (placeIn places f) 0 b))
+      ap (λ (m : ℕ). orZero (place (λ k. eqb k m) row)) field-steps
+      ∙ ap orZero (index-of-steps (l .table) (x .subband) (placeIn places f) (getD row (placeIn places f) 0) (there row (placeIn places f) 0 b))
 
   pub places-back : placeIn places f < length (rowOf (l .table) (x .subband)) → placeIn (placesFrom l (stepsOf l places)) f ≡ placeIn places f
   unfolding placesFrom

@@ -49,11 +49,11 @@ module _ (R : Rules) (p q : List ℕ) (left : ℕ) (same : (f : ℕ) → f < R .
 
 -- ---- the ratios of a field's channels are numbers where none that is read is a NaN
 
-one-of-head : (c : ℕ) (cs : List ℕ) → T (oneOf (c ∷ cs) c)
+pub one-of-head : (c : ℕ) (cs : List ℕ) → T (oneOf (c ∷ cs) c)
 unfolding oneOf
 one-of-head c cs = rw (eq-eqb c c refl) tt
 
-one-of-tail : (c ch : ℕ) (cs : List ℕ) → T (oneOf cs ch) → T (oneOf (c ∷ cs) ch)
+pub one-of-tail : (c ch : ℕ) (cs : List ℕ) → T (oneOf cs ch) → T (oneOf (c ∷ cs) ch)
 unfolding oneOf
 one-of-tail c ch cs t = go (eqb ch c)
   where

@@ -3,34 +3,27 @@ use Prim.Native.Nat.{ℕ, _<_}
 use mathlib.Core.Path.{_≡_}
 use mathlib.Core.Bool.{false}
 use mathlib.Core.List.{List, map}
-use mathlib.Core.Option.{Option, none, some}
+use mathlib.Core.Option.{none}
 use lib.Dec.{T, eqb}
 use lib.Ieee.{Float, isNan}
 use lib.ListN.{length, getD}
 use Rattle.tables.specs.Search.{place, oneOf}
 use Rattle.bitalloc.specs.declared.BitAllocTable.{BitAllocTable}
+use Rattle.bitalloc.specs.Options.{orZero}
 use Rattle.bitalloc.specs.Tables.{rowOf}
 use Rattle.layout.specs.declared.Layout.{Layout}
 use Rattle.layout.specs.declared.AllocationField.{AllocationField}
 use Rattle.layout.specs.Slots.{slotOf}
-use Rattle.layout.specs.Layout.{served, fieldsOf, fieldIn, servedBy}
+use Rattle.layout.specs.Layout.{served, fieldsOf, fieldIn, fieldSteps, servedBy}
 use Rattle.encoder_bit_demand.specs.Demand.{smrAt}
 use Rattle.allocation_rounds.specs.Rounds.{placeIn}
 use Rattle.allocation_rounds.specs.Promises.{Over, Accounted, Spent, Exchanged}
 use Rattle.allocation_run.specs.Entries.{rulesOf, entriesOf}
 use Rattle.allocation_run.specs.Steps.{runOf, stepsOf}
 
--- the steps that a field holds: those of the slot of its first channel
-abbrev pub fieldSteps : List ℕ → AllocationField → ℕ
-fieldSteps steps x = getD steps (slotOf (x .channel) (x .subband)) 0
-
 -- a field stands at the place of its steps in its row
-abbrev pub orBottom : Option ℕ → ℕ
-orBottom none = 0
-orBottom (some p) = p
-
 abbrev pub standing : BitAllocTable → List ℕ → AllocationField → ℕ
-standing t steps x = orBottom (place (λ n. eqb n (fieldSteps steps x)) (rowOf t (x .subband)))
+standing t steps x = orZero (place (λ n. eqb n (fieldSteps steps x)) (rowOf t (x .subband)))
 
 unfoldable pub placesFrom : Layout → List ℕ → List ℕ
 placesFrom l steps = map (standing (l .table) steps) (fieldsOf l)

@@ -1,7 +1,7 @@
 // The side information of a Layer II frame (ISO/IEC 11172-3 2.4.1.6): bit allocation, scalefactor selection information
 // and scalefactor indices, as one record.
 ghost use mathlib.Core.Path.{_≡_};
-ghost use Rattle.audio_data.specs.Scfsi.{CodeIs, PartsAre};
+ghost use Rattle.audio_data.specs.Scfsi.{ofCode, CodeIs, PartsAre};
 ghost use Rattle.audio_data.specs.Record.{fresh, filler};
 use bitalloc::BitAllocTable;
 use bitalloc::NUM_SUBBANDS;
@@ -20,7 +20,19 @@ pub enum Scfsi {
 }
 
 impl Scfsi {
-    // The two-bit code (2.4.3.3.2).
+    // The scfsi of a two-bit code (2.4.3.3.2); a number above 3 is taken as 3.
+    pub fn of_code(code: u8) -> Scfsi
+        ensures { λ r. ⌜ r ≡ ofCode code ⌝ }
+    {
+        match code {
+            0 => Scfsi::ThreePerGranule,
+            1 => Scfsi::Share01Then2,
+            2 => Scfsi::ShareAll,
+            _ => Scfsi::Share0Then12,
+        }
+    }
+
+    // The two-bit code.
     pub fn code(self) -> u8
         ensures { λ r. ⌜ CodeIs self r ⌝ }
     {

@@ -4,16 +4,18 @@ use mathlib.Core.Path.{_≡_, refl, sym, ap, ap₂, _∙_, subst}
 use mathlib.Core.Bool.{Bool, true, false, cond, _&&_, and-false}
 use mathlib.Core.List.{List, [], _∷_}
 use mathlib.Core.Option.{none, some, Option·none-ne-some, Option·some-injective}
-use Prim.Native.Nat.{ℕ, _*_, _%_, _^_, _≤_, _<_}
+use Prim.Native.Nat.{ℕ, _+_, _-_, _*_, _%_, _^_, _≤_, _<_}
+use mir.Val.{boolByte}
 use native.Mathlib.Nat.{lt-of-lt-of-le, lt-of-le-of-lt, lt-trans, le-trans, not-suc-le-zero, one-mul, mod-eq-of-lt}
 use native.Mathlib.Decide.{decLt}
 use native.Mathlib.Omega.{arith}
-use borrow.Author.Tests.{le-ltb, lt-leb, eq-eqb, ne-eqb, eqb-true}
+use borrow.Author.Tests.{lt-ltb, le-ltb, lt-leb, eq-eqb, ne-eqb, eqb-true}
 use lib.Pow.{pow-mono}
 use lib.Dec.{T, leb, ltb, eqb, ltb→lt, leb→le, eqb→eq, lit<, lit≤}
+use lib.Count.{leadingZeros}
 use lib.ListN.{length, getD, replicate}
 use Rattle.tables.proofs.Listed.{tabulated}
-use Rattle.bitalloc.specs.Storage.{rowOf16}
+use Rattle.bitalloc.specs.Storage.{rowOf16, firstOfThree}
 use Rattle.table_rows.specs.Changes.{storedAB, storedCD, storedLsf, widthBy, WidthIs}
 use Rattle.tables.specs.Search.{entryAt}
 use Rattle.tables.specs.Sum.{sumBelow}
@@ -247,6 +249,120 @@ index-missing t sb steps places row e p b = record {
   below = λ j r. absurd (Option·none-ne-some j (ap numberIn r))
 }
 
+pub row-rises : (t : BitAllocTable) (sb i j : ℕ) → i < j → j < length (rowOf t sb) → getD (rowOf t sb) i 0 < getD (rowOf t sb) j 0
+row-rises =
+    everywhere (λ n row. (i j : ℕ) → i < j → j < length row → getD row i 0 < getD row j 0)
+    (λ n row r. r .rising) (λ i j l h. absurd (not-suc-le-zero h))
+
+-- ---- steps stand at one of three places
+
+pub flag-small : (b : Bool) → boolByte b ≤ 1
+flag-small true = lit≤ tt
+flag-small false = lit≤ tt
+
+pub two-flags-small : (r : List ℕ) (n s : ℕ) → boolByte (ltb (getD r s 0) n) + boolByte (ltb (getD r (s + 1) 0) n) ≤ 2
+two-flags-small r n s = omega (arith, flag-small (ltb (getD r s 0) n), flag-small (ltb (getD r (s + 1) 0) n))
+
+pub flag-within : (n : ℕ) → boolByte (ltb 0 n) ≤ n
+flag-within n = go (decLt 0 n)
+  where
+    go : Dec (0 < n) → boolByte (ltb 0 n) ≤ n
+    go (yes h) = rw (lt-ltb 0 n h) h
+    go (no h) = rw (le-ltb 0 n (omega arith)) (omega arith)
+
+pub one-less : (n : ℕ) → n - boolByte (ltb 0 n) ≡ n - 1
+one-less n = go (decLt 0 n)
+  where
+    go : Dec (0 < n) → n - boolByte (ltb 0 n) ≡ n - 1
+    go (yes h) = rw (lt-ltb 0 n h)
+    go (no h) = rw (le-ltb 0 n (omega arith)) (omega arith)
+
+-- the rule as one test of a row
+near : List ℕ → Bool
+near row = allBelow (length row) (λ p. leb (firstOfThree (length row) (getD row p 0)) p && leb p (firstOfThree (length row) (getD row p 0) + 2))
+
+computed-near : (t : BitAllocTable) → T (allBelow (sblimitOf t) (λ sb. near (rowOf t sb)))
+unfolding near rowOf ranges leadingZeros
+computed-near B2a = tt
+computed-near B2b = tt
+computed-near B2c = tt
+computed-near B2d = tt
+computed-near B1Lsf = tt
+
+-- the three are places of the row
+pub three-fit : (places steps : ℕ) → 4 ≤ places → firstOfThree places steps + 3 ≤ places
+three-fit places steps h = omega arith
+
+-- a row that has a place has four
+pub row-long : (t : BitAllocTable) (sb : ℕ) → (length (rowOf t sb) ≡ 0 → ⊥) → 4 ≤ length (rowOf t sb)
+row-long t sb d = go (decLt sb (sblimitOf t))
+  where
+    go : Dec (sb < sblimitOf t) → 4 ≤ length (rowOf t sb)
+    go (yes h) = let r = row-rule t sb h in rw (r .places) (pow-mono {i = 2} (r .least))
+    go (no h) = absurd (d (ap length (no-row t sb (omega arith))))
+
+row-near : (t : BitAllocTable) (sb p : ℕ) → p < length (rowOf t sb)
+  → (firstOfThree (length (rowOf t sb)) (getD (rowOf t sb) p 0) ≤ p) × (p ≤ firstOfThree (length (rowOf t sb)) (getD (rowOf t sb) p 0) + 2)
+unfolding near
+row-near t sb p h = go (decLt sb (sblimitOf t))
+  where
+    start : ℕ
+    start = firstOfThree (length (rowOf t sb)) (getD (rowOf t sb) p 0)
+    go : Dec (sb < sblimitOf t) → (start ≤ p) × (p ≤ start + 2)
+    go (yes b) =
+        let both = below (length (rowOf t sb)) _ (below (sblimitOf t) (λ sb. near (rowOf t sb)) (computed-near t) sb b) p h in
+        (leb→le start p (first (leb start p) (leb p (start + 2)) both), leb→le p (start + 2) (second (leb start p) (leb p (start + 2)) both))
+    go (no b) = absurd (let z = ap length (no-row t sb (omega arith)) in omega arith)
+
+module _ (t : BitAllocTable) (sb places : ℕ) (row : List ℕ) (e : row ≡ rowOf16 t sb) (p : places ≡ length (rowOf t sb)) where
+  rises : (i j : ℕ) → i < j → j < places → getD row i 0 < getD row j 0
+  rises i j l h =
+      let m : j < length (rowOf t sb) = subst (λ (n : ℕ). j < n) p h in
+      rw (row-steps t sb i row e (lt-trans l m), row-steps t sb j row e m) (row-rises t sb i j l m)
+
+  module _ (steps start place : ℕ) (f : start ≡ firstOfThree places steps)
+      (which : place ≡ start + boolByte (ltb (getD row start 0) steps) + boolByte (ltb (getD row (start + 1) 0) steps)) where
+    -- where the row has the steps, that place is found
+    lands : (k : ℕ) → k < places → getD row k 0 ≡ steps → place ≡ k
+    lands k h q = go (decLt start k) (decLt (start + 1) k)
+      where
+        m : k < length (rowOf t sb)
+        m = subst (λ (n : ℕ). k < n) p h
+        long : 4 ≤ places
+        long = subst (λ (n : ℕ). 4 ≤ n) (sym p) (row-long t sb (λ z. omega arith))
+        same : firstOfThree (length (rowOf t sb)) (getD (rowOf t sb) k 0) ≡ start
+        same = ap₂ (λ (n s : ℕ). firstOfThree n s) (sym p) (sym (row-steps t sb k row e m) ∙ q) ∙ sym f
+        from : start ≤ k
+        from = subst (λ (n : ℕ). n ≤ k) same (row-near t sb k m .0)
+        to : k ≤ start + 2
+        to = subst (λ (n : ℕ). k ≤ n + 2) same (row-near t sb k m .1)
+        flags : (a b : Bool) → ltb (getD row start 0) steps ≡ a → ltb (getD row (start + 1) 0) steps ≡ b → place ≡ start + boolByte a + boolByte b
+        flags a b x y = which ∙ ap₂ (λ (a b : Bool). start + boolByte a + boolByte b) x y
+        fewer : (i : ℕ) → i < k → ltb (getD row i 0) steps ≡ true
+        fewer i l = lt-ltb (getD row i 0) steps (omega (arith, rises i k l h))
+        others : (i : ℕ) → k ≤ i → i < places → Dec (k < i) → ltb (getD row i 0) steps ≡ false
+        others i l b (yes g) = le-ltb (getD row i 0) steps (omega (arith, rises k i g b))
+        others i l b (no g) = let z : i ≡ k = omega arith in le-ltb (getD row i 0) steps (rw z (omega arith))
+        within : start + 3 ≤ places
+        within = rw f (three-fit places steps long)
+        go : Dec (start < k) → Dec (start + 1 < k) → place ≡ k
+        go (no a) b =
+            let g = from in
+            let w = within in
+            let z = flags false false (others start (omega arith) (omega arith) (decLt k start)) (others (start + 1) (omega arith) (omega arith) (decLt k (start + 1))) in
+            z ∙ omega arith
+        go (yes a) (no b) =
+            let w = within in
+            let z = flags true false (fewer start a) (others (start + 1) (omega arith) (omega arith) (decLt k (start + 1))) in
+            z ∙ omega arith
+        go (yes a) (yes b) = let t = to in flags true true (fewer start a) (fewer (start + 1) b) ∙ omega arith
+
+    pub three-found : place < places → getD row place 0 ≡ steps → AllocationIndexIs t sb steps (Some place)
+    three-found h q = index-found t sb steps place places row e p h (λ k m r. absurd (omega (arith, rises k place m h))) q
+
+    pub three-missed : (getD row place 0 ≡ steps → ⊥) → AllocationIndexIs t sb steps None
+    three-missed d = index-missing t sb steps places row e p (λ k h q. d (rw (lands k h q) q))
+
 -- ---- nbal by the subbands at which it falls: below the first 4 bits, below the second 3, below sblimit 2
 
 abbrev pub four : BitAllocTable → ℕ
@@ -303,11 +419,6 @@ nbal-sums B2d = refl
 nbal-sums B1Lsf = refl
 
 -- ---- steps and places are each other's inverse
-
-pub row-rises : (t : BitAllocTable) (sb i j : ℕ) → i < j → j < length (rowOf t sb) → getD (rowOf t sb) i 0 < getD (rowOf t sb) j 0
-row-rises =
-    everywhere (λ n row. (i j : ℕ) → i < j → j < length row → getD row i 0 < getD row j 0)
-    (λ n row r. r .rising) (λ i j l h. absurd (not-suc-le-zero h))
 
 pub index-of-steps : (t : BitAllocTable) (sb i n : ℕ) → stepsAt t sb i ≡ some n → indexOf t sb n ≡ some i
 unfolding stepsAt indexOf

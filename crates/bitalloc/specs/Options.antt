@@ -13,6 +13,11 @@ abbrev pub isSome : {A : Type 0} → Option A → Bool
 isSome none = false
 isSome (some x) = true
 
+-- the number, and 0 where there is none
+abbrev pub orZero : Option ℕ → ℕ
+orZero none = 0
+orZero (some n) = n
+
 abbrev pub numberIn : OptionU32 → Option ℕ
 numberIn (U32.Some n) = some n
 numberIn U32.None = none

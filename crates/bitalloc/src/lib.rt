@@ -1,7 +1,8 @@
 // The bit allocation tables of Layer II: Tables 3-B.2a to d of ISO/IEC 11172-3, Table B.1 of ISO/IEC 13818-3.
 ghost use mathlib.Core.Path.{_≡_};
+ghost use Prim.Native.Nat.{min, _≤_};
 ghost use Rattle.bitalloc.specs.Tables.{tableNumbered, tableNumber, SblimitIs, PlacesAre, NbalIs, StepsAre, AllocationIndexIs};
-ghost use Rattle.bitalloc.specs.Storage.{rowOf16};
+ghost use Rattle.bitalloc.specs.Storage.{rowOf16, FirstOfThreeIs};
 ghost use Rattle.bitalloc.specs.Options.{tableIn};
 
 // A subband's index is below this.
@@ -96,20 +97,19 @@ impl BitAllocTable {
         }
     }
 
-    // The place in the subband's row at which the steps stand.
+    // The place in the subband's row at which the steps stand. It is one of three, which the steps' binary digits tell; since the row rises, two
+    // comparisons tell which.
     pub fn allocation_index(self, sb: usize, nb_steps: u32) -> OptionU32
         ensures { λ r. ⌜ AllocationIndexIs self sb «nb_steps» r ⌝ }
     {
         let places = self.places(sb);
-        let row = self.row(sb);
-        let mut at: usize = 0;
-        while at < places {
-            if row[at] == nb_steps {
-                return OptionU32::Some(at as u32);
-            }
-            at = at + 1;
+        if places == 0 {
+            return OptionU32::None;
         }
-        OptionU32::None
+        let row = self.row(sb);
+        let first = first_of_three(places, nb_steps);
+        let place = first + ((row[first] < nb_steps) as usize) + ((row[first + 1] < nb_steps) as usize);
+        if row[place] == nb_steps { OptionU32::Some(place as u32) } else { OptionU32::None }
     }
 
     // The steps at the places 0 to 15 of the subband's row; 0 where there is no such place.
@@ -132,4 +132,20 @@ impl BitAllocTable {
         let nbal = self.nbal(sb);
         if nbal == 0 { 0 } else { 1 << nbal }
     }
+}
+
+// The first of the three places of a row of so many at one of which the steps stand, if anywhere.
+fn first_of_three(places: usize, nb_steps: u32) -> usize
+    requires { ⌜ 4 ≤ places ⌝ }
+    ensures { λ r. ⌜ FirstOfThreeIs places «nb_steps» r ⌝ }
+{
+    let digits = (32 - u32::leading_zeros(nb_steps)) as usize;
+    let middle = smaller(digits, places - 2);
+    middle - ((0 < middle) as usize)
+}
+
+fn smaller(a: usize, b: usize) -> usize
+    ensures { λ r. ⌜ r ≡ min a b ⌝ }
+{
+    if a < b { a } else { b }
 }

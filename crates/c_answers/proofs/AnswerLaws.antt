@@ -38,7 +38,7 @@ module _ {A : Type 0} where
   fits vs old new h e = e ∙ all-fit vs old h
 
   -- one value written
-  one-written : (old : List A) (v : A) → 1 ≤ length old → set old 0 v ≡ written (v ∷ []) old
+  pub one-written : (old : List A) (v : A) → 1 ≤ length old → set old 0 v ≡ written (v ∷ []) old
   one-written [] v h = absurd (not-suc-le-zero h)
   one-written (x ∷ old) v h = refl
 

@@ -1,6 +1,8 @@
 // The functions of a header.
+use crate::record;
 use crate::show;
 use folgrist_mp2::frame;
+use folgrist_mp2::side_info;
 
 // The seven arguments of a header.
 pub struct Head {
@@ -20,6 +22,7 @@ pub fn ask(h: Head, banc: u32) {
     available_data_bits(h, banc);
     demand_bits(h);
     allocate_bits(h, banc);
+    write_side_info(h);
 }
 
 fn select_table(h: Head) {
@@ -119,6 +122,30 @@ fn allocate_bits(h: Head, banc: u32) {
     );
     show::words(b"allocate_bits", number, &steps);
     show::words(b"allocate_bits, out", number, &out);
+}
+
+fn write_side_info(h: Head) {
+    let steps = record::steps();
+    let scfsi = record::scfsi();
+    let indices = record::indices();
+    let mut bytes = [9u8; 174];
+    let mut out = [9u32; 1];
+    let number = side_info::folgrist_write_side_info(
+        h.lsf,
+        h.bit_rate,
+        h.sample_rate,
+        h.padding,
+        h.protection_bit,
+        h.mode,
+        h.mode_extension,
+        &steps,
+        &scfsi,
+        &indices,
+        &mut bytes,
+        &mut out,
+    );
+    show::bytes(b"write_side_info", number, &bytes);
+    show::words(b"write_side_info, out", number, &out);
 }
 
 // From 30 dB down by three quarters of one from slot to slot.

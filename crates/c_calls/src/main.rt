@@ -3,6 +3,7 @@
 // change can change an answer.
 mod frames;
 mod indices;
+mod record;
 mod rows;
 mod show;
 

@@ -5,7 +5,7 @@ use mathlib.Core.List.{List, [], _∷_}
 use Prim.Native.Nat.{ℕ, zero, suc, _+_, _-_, _*_, _≤_, _<_}
 use native.Mathlib.Nat.{zero-div}
 use native.Mathlib.Omega.{arith}
-use lib.Dec.{T, eqb, lit≤}
+use lib.Dec.{T, eqb, leb, lit≤}
 use lib.Ieee.{Float, nan, binary64, fits}
 use lib.ListN.{getD}
 use mir.Val.{Val}
@@ -13,7 +13,7 @@ use denote.Shadow.{shadow}
 use denote.Laws.{Is}
 use denote.Array.{Array, each, inArray}
 use denote.Floats.{FloatOf, passes}
-use borrow.Author.Tests.{eqb-true, le-leb, lt-leb}
+use borrow.Author.Tests.{eqb-true, leb-true, le-leb, lt-leb}
 use Rattle.header.specs.Questions.{number}
 use Rattle.header.specs.Header.{frameBytes, freeFormat}
 use Rattle.header.proofs.QuestionLaws.{behind, all-yes, some-no, said-yes, said-no}
@@ -77,6 +77,20 @@ module _ (q : Request) where
       let bits = bitsAsked asked (q .banc) ∷ [] in
       behind 0 (headerAsked (q .header)) bits ∙ some-no (number bits) (headerAsked (q .header)) z
 
+  -- where all are answered yes, the bits fit
+  pub asked-zero : number (allocationAsked q) ≡ 0 → (number (headerAsked (q .header)) ≡ 0) × (fixedIn asked + q .banc ≤ asked .cb)
+  asked-zero z = let h = header in (h, fit (leb (fixedIn asked + q .banc) (asked .cb)) refl (sym (then-bits h) ∙ z))
+    where
+      header : number (headerAsked (q .header)) ≡ 0
+      header = go (eqb (number (headerAsked (q .header))) 0) refl
+        where
+          go : (b : Bool) → eqb (number (headerAsked (q .header))) 0 ≡ b → number (headerAsked (q .header)) ≡ 0
+          go true e = eqb-true (number (headerAsked (q .header))) 0 e
+          go false e = sym (else-header e) ∙ z
+      fit : (b : Bool) → leb (fixedIn asked + q .banc) (asked .cb) ≡ b → number (bitsAsked asked (q .banc) ∷ []) ≡ 0 → fixedIn asked + q .banc ≤ asked .cb
+      fit true e n = leb-true (fixedIn asked + q .banc) (asked .cb) e
+      fit false e n = let m = sym (said-no 0 (bitsAsked asked (q .banc)) [] e) ∙ n in absurd (omega arith)
+
   -- neither is ever 3
   pub never-too-large : number (allocationAsked q) ≡ 3 → ⊥
   never-too-large e =
@@ -117,7 +131,7 @@ module _ (q : Request) (free : freeFormat (q .header) ≡ true) where
 
 module _ (q : Request) (smr : List (List Float)) where
   -- the record's number is the answer's
-  number-is : allocationOf q smr .number ≡ number (allocationAsked q)
+  pub number-is : allocationOf q smr .number ≡ number (allocationAsked q)
   unfolding allocationOf allocationIn accepted
   number-is = go (number (allocationAsked q)) (eqb (number (allocationAsked q)) 0) (eqb (number (allocationAsked q)) 4) refl refl
     where

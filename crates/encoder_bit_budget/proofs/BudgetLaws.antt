@@ -151,7 +151,8 @@ widths B2c = lit≤ tt
 widths B2d = lit≤ tt
 widths B1Lsf = lit≤ tt
 
-allocation-small : (l : Layout) → allocationBits l ≤ 188
+-- the allocation fields of any layout
+pub allocation-small : (l : Layout) → allocationBits l ≤ 188
 unfolding allocationBits fieldsOf
 allocation-small l = let b = twice l (limitOf l) in omega (arith, widths (l .table))
 
@@ -244,22 +245,29 @@ module _ (q : Request) where
   table-of b t r = ap (λ b. b .table) r
 
   module _ (b : FixedBitBudget) (ok : budgetIn (Ok b) ≡ budgetOf q) where
-    -- an accepted budget is the one under its own table
-    pub accepted-is : b ≡ budgetUnder q (b .table)
+    -- an accepted budget is the one under its own table, which is the one selected
+    named : (tableOf (q .header) ≡ some (b .table)) × (b ≡ budgetUnder q (b .table))
     unfolding budgetOf
-    accepted-is = go (answered (q .header))
+    named = go (answered (q .header))
       where
         z : 0 ≡ number (headerAsked (q .header))
         z = ap (λ a. a .answer) ok
         w : b ≡ acceptedUnder q 0 (tableOf (q .header))
         w = subst (λ (n : ℕ). b ≡ acceptedUnder q n (tableOf (q .header))) (sym z) (ap (λ a. a .budget) ok)
-        go : Answered (q .header) → b ≡ budgetUnder q (b .table)
+        go : Answered (q .header) → (tableOf (q .header) ≡ some (b .table)) × (b ≡ budgetUnder q (b .table))
         go (off n) = let e = z ∙ n in absurd (omega arith)
         go (untabled n) = let e = z ∙ n in absurd (omega arith)
         go (unrated n) = let e = z ∙ n in absurd (omega arith)
         go (served t p n) =
             let r = subst (λ o. b ≡ acceptedUnder q 0 o) p w in
-            r ∙ ap (budgetUnder q) (sym (table-of b t r))
+            let s = sym (table-of b t r) in
+            (p ∙ ap some s, r ∙ ap (budgetUnder q) s)
+
+    pub table-is : tableOf (q .header) ≡ some (b .table)
+    table-is = named .0
+
+    pub accepted-is : b ≡ budgetUnder q (b .table)
+    accepted-is = named .1
 
     -- its fields are those of the header's layout
     pub layout-is : layoutIn b ≡ layoutOf (q .header) (b .table)

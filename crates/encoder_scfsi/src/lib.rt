@@ -4,7 +4,6 @@ ghost use mathlib.Core.Path.{_≡_};
 ghost use Prim.Native.Nat.{min};
 ghost use lib.IntN.{pos, _-ℤ_};
 ghost use lib.ListN.{getD};
-ghost use Rattle.audio_data.specs.Scfsi.{ofCode};
 ghost use Rattle.encoder_scfsi.specs.Class.{differenceClass, NumberIs};
 ghost use Rattle.encoder_scfsi.specs.TableC4.{prescribedFor, named};
 ghost use Rattle.encoder_scfsi.specs.Storage.{stored, kept};
@@ -100,7 +99,7 @@ pub fn select_scfsi(scalefactors: [u8; 3]) -> ScfsiSelection
         write1: row[4] == 1,
         write2: row[5] == 1,
     };
-    let scfsi = scfsi_of(row[6]);
+    let scfsi = Scfsi::of_code(row[6]);
     ScfsiSelection {
         used,
         pattern,
@@ -178,16 +177,4 @@ fn smaller(a: u8, b: u8) -> u8
     ensures { λ r. ⌜ r ≡ min a b ⌝ }
 {
     if a < b { a } else { b }
-}
-
-// The scfsi of a code.
-fn scfsi_of(code: u8) -> Scfsi
-    ensures { λ r. ⌜ r ≡ ofCode code ⌝ }
-{
-    match code {
-        0 => Scfsi::ThreePerGranule,
-        1 => Scfsi::Share01Then2,
-        2 => Scfsi::ShareAll,
-        _ => Scfsi::Share0Then12,
-    }
 }

@@ -13,13 +13,14 @@ use Rattle.layout.specs.declared.Layout.{Layout}
 use Rattle.layout.specs.declared.AllocationField.{AllocationField}
 use Rattle.layout.specs.Layout.{own, shared, fieldsAt, fieldIn, sumOver}
 
-pub sum-append : (f : AllocationField → ℕ) (xs ys : List AllocationField) → sumOver f (xs ++ ys) ≡ sumOver f xs + sumOver f ys
+pub sum-append : {A : Type 0} (f : A → ℕ) (xs ys : List A) → sumOver f (xs ++ ys) ≡ sumOver f xs + sumOver f ys
 sum-append f [] ys = omega arith
 sum-append f (x ∷ xs) ys = let e = sum-append f xs ys in omega arith
 
 -- ---- field after field, as a loop adds them up
 
-one-more : (f : AllocationField → ℕ) (xs : List AllocationField) (n : ℕ) → n < length xs
+-- up to an entry
+pub one-more : (f : AllocationField → ℕ) (xs : List AllocationField) (n : ℕ) → n < length xs
   → sumOver f (take (suc n) xs) ≡ sumOver f (take n xs) + f (fieldIn xs n)
 one-more f [] n h = absurd (not-suc-le-zero h)
 one-more f (x ∷ xs) zero h = omega arith

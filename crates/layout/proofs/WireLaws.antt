@@ -8,6 +8,7 @@ use native.Mathlib.Omega.{arith}
 use lib.Dec.{eqb, ltb, lit<}
 use lib.ListN.{length, getD, length-append, List·getD-eq-default}
 use Rattle.tables.proofs.Listed.{at-append}
+use Rattle.bitalloc.proofs.RowLaws.{sblimit-small}
 use Rattle.layout.specs.declared.Layout.{Layout}
 use Rattle.layout.specs.declared.AllocationField.{AllocationField}
 use Rattle.layout.specs.Slots.{slotOf}
@@ -95,6 +96,14 @@ module _ (l : Layout) where
   which : (k : ℕ) → k < length (slotsOf l) → getD (slotsOf l) k 0 ≡ slotNumbered one k
   unfolding slotsOf
   which k h = wired .which k (rw many at h)
+
+  -- there are 60 at most
+  pub few-slots : length (slotsOf l) ≤ 60
+  few-slots = rw many (go one (sblimit-small (l .table)))
+    where
+      go : (one : Bool) → limitOf l ≤ 30 → slotCount one (limitOf l) ≤ 60
+      go true h = omega arith
+      go false h = omega arith
 
   pub slots-are : (n : ℕ) → n ≡ slotCount one (limitOf l) → n ≤ 60 → SlotsAre l n
   slots-are n e h = record { whole = e ∙ sym many; few = h }

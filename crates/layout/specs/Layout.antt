@@ -88,10 +88,14 @@ serves ch sb x = eqb (x .subband) sb && oneOf (served x) ch
 abbrev pub servedBy : Layout → ℕ → ℕ → Option ℕ
 servedBy l ch sb = place (serves ch sb) (fieldsOf l)
 
+-- the steps that a field holds: those of the slot of its first channel
+abbrev pub fieldSteps : List ℕ → AllocationField → ℕ
+fieldSteps steps x = getD steps (slotOf (x .channel) (x .subband)) 0
+
 -- ---- over the list
 
--- a sum over fields
-abbrev pub sumOver : (AllocationField → ℕ) → List AllocationField → ℕ
+-- a sum over fields, or over slots
+abbrev pub sumOver : {A : Type 0} → (A → ℕ) → List A → ℕ
 sumOver f [] = 0
 sumOver f (x ∷ xs) = f x + sumOver f xs
 

@@ -10,10 +10,9 @@ use lib.ListN.{length}
 use borrow.Author.Tests.{eq-eqb, ne-eqb}
 use Rattle.layout.specs.declared.Layout.{Layout}
 use Rattle.layout.specs.declared.AllocationField.{AllocationField}
-use Rattle.layout.specs.Layout.{channelCount}
+use Rattle.layout.specs.Layout.{channelCount, fieldSteps}
 use Rattle.encoder_bit_demand.specs.Demand.{FirstStepIs}
 use Rattle.allocation_run.specs.Entries.{charge, ChargeIs}
-use Rattle.allocation_worth.specs.Worth.{fieldSteps}
 use Rattle.text_line.specs.Line.{cut, aligned}
 use Rattle.text_line.specs.Number.{numberText}
 use Rattle.text_line.proofs.LineLaws.{cut-whole, behind, more}

@@ -8,10 +8,9 @@ use lib.ListN.{getD}
 use Rattle.layout.specs.declared.Layout.{Layout}
 use Rattle.layout.specs.declared.AllocationField.{AllocationField}
 use Rattle.layout.specs.Slots.{slotOf}
-use Rattle.layout.specs.Layout.{channelCount, fieldsOf, sumOver}
+use Rattle.layout.specs.Layout.{channelCount, fieldsOf, fieldSteps, sumOver}
 use Rattle.encoder_bit_demand.specs.Demand.{smrAt, firstStep}
 use Rattle.allocation_run.specs.Entries.{slotMnr, charge}
-use Rattle.allocation_worth.specs.Worth.{fieldSteps}
 use Rattle.plan_text.specs.Quoted.{text}
 use Rattle.text_line.specs.Line.{aligned}
 use Rattle.text_line.specs.Number.{numberText}

@@ -1,5 +1,5 @@
 -- Worked cases: answers found by hand, in one table, and the claim that the definitions give them.
-use Prim.Native.Nat.{ℕ}
+use Prim.Native.Nat.{ℕ, zero, suc}
 use mathlib.Core.Path.{_≡_}
 use mathlib.Core.Bool.{Bool, true, false}
 use mathlib.Core.List.{List, [], _∷_, _++_, map}
@@ -15,11 +15,17 @@ use Rattle.header.specs.Header.{frameSize}
 use Rattle.bitalloc.specs.declared.BitAllocTable.{BitAllocTable}
 use Rattle.bitalloc.specs.declared.BitAllocTable.the-variants.{B2a, B2b, B2c, B1Lsf}
 use Rattle.table_selection.specs.Select.{tableOf}
+use Rattle.audio_data.specs.declared.Scfsi.{Scfsi}
+use Rattle.audio_data.specs.declared.Scfsi.the-variants.{ThreePerGranule, ShareAll}
+use Rattle.audio_data.specs.declared.ScfsiSlot.{ScfsiSlot}
 use Rattle.encoder_scalefactors.specs.Indices.{pickOf}
 use Rattle.encoder_scfsi.specs.Select.{selection}
 use Rattle.encoder_bit_budget.specs.Budget.{plain, BudgetAnswer, budgetOf, fixedIn}
 use Rattle.encoder_bit_allocator.specs.declared.Allocation.{Allocation}
 use Rattle.encoder_bit_allocator.specs.Allocation.{allocationOf}
+use Rattle.side_info.specs.SideInfo.{sideInfo}
+use Rattle.side_info_writer.specs.declared.WrittenSideInfo.{WrittenSideInfo}
+use Rattle.side_info_writer.specs.Written.{writtenOf}
 
 -- ---- what is asked, and what is answered
 
@@ -37,6 +43,8 @@ pub data Question : Type 0 where
   budget : FrameHeader → Question
   -- its allocation, with these ratios and so many ancillary bits
   allocation : FrameHeader → Ratios → ℕ → Question
+  -- its side information, written from steps, scfsi and scalefactor indices
+  sideInformation : FrameHeader → List ℕ → List ScfsiSlot → List ℕ → Question
   -- the indices used for three scalefactor indices
   used : ℕ → ℕ → ℕ → Question
   -- the scalefactor index of a largest magnitude
@@ -51,6 +59,8 @@ pub data Answer : Type 0 where
   budgeted : ℕ → BitAllocTable → ℕ → ℕ → Answer
   -- of an allocation: the answer's number, the steps of the slots, the bits left; the bits of the frame, the fixed and the ancillary ones
   allocated : ℕ → List ℕ → ℕ → ℕ → ℕ → ℕ → Answer
+  -- of side information: the answer's number, the bytes, the bits used
+  bits : ℕ → List ℕ → ℕ → Answer
   -- scalefactor indices
   indices : List ℕ → Answer
 
@@ -59,6 +69,9 @@ ofBudget a = budgeted (a .answer) (a .budget .table) (a .budget .cb) (fixedIn (a
 
 abbrev ofAllocation : Allocation → Answer
 ofAllocation a = allocated (a .number) (a .audio .«nb_steps») (a .left) (a .cb) (a .fixed) (a .banc)
+
+abbrev ofWritten : WrittenSideInfo → Answer
+ofWritten w = bits (w .number) (w .bytes) (w .«bits_used»)
 
 -- the two rows of ratios, where `any` stands for those given
 abbrev rowsOf : List (List Float) → Ratios → List (List Float)
@@ -71,6 +84,7 @@ answerTo smr (table h) = selected (tableOf h)
 answerTo smr (bytes h) = sized (frameSize h .answer) (frameSize h .bytes)
 answerTo smr (budget h) = ofBudget (budgetOf (plain h 0))
 answerTo smr (allocation h ratios banc) = ofAllocation (allocationOf (plain h banc) (rowsOf smr ratios))
+answerTo smr (sideInformation h steps scfsi scalefactors) = ofWritten (writtenOf h (sideInfo steps scfsi scalefactors))
 answerTo smr (used a b c) = indices (selection a b c .used)
 answerTo smr (index x) = indices (pickOf x ∷ [])
 
@@ -105,6 +119,29 @@ monoNoCrc = frame false 48_000 32_000 SingleChannel true
 -- slots without steps
 abbrev pub idle : ℕ → List ℕ
 idle slots = replicate slots 0
+
+-- joint stereo with bound 4, and stereo, at 44100 Hz and 192000 bit/s without a CRC: table B2b, 30 subbands
+abbrev joint : FrameHeader
+joint = frame false 44_100 192_000 JointStereo true
+
+abbrev stereo : FrameHeader
+stereo = frame false 44_100 192_000 Stereo true
+
+-- the steps of the slots: a number of subband 3 and one of subband 4 in channel 0, one of subband 4 in channel 1
+abbrev around4 : ℕ → ℕ → ℕ → List ℕ
+around4 a b c = idle 3 ++ (a ∷ b ∷ idle 27 ++ (idle 4 ++ (c ∷ idle 27)))
+
+-- one scfsi for every slot, and one index for every granule of every slot
+abbrev allWith : Scfsi → List ScfsiSlot
+allWith s = replicate 64 (record { scfsi = s })
+
+abbrev indexed : ℕ → List ℕ
+indexed i = replicate 192 i
+
+-- three bytes, again and again
+abbrev repeated : ℕ → List ℕ → List ℕ
+repeated zero xs = []
+repeated (suc n) xs = xs ++ repeated n xs
 
 -- a case in each mode
 abbrev inEachMode : (Mode → Case) → List Case
@@ -146,6 +183,26 @@ cases =
     -- free format is on both ladders: a frame that counts no bits beside the fixed ones
     ∷ case (budget (frame false 48_000 0 SingleChannel true)) (budgeted 0 B2a 0 120)
     ∷ case (budget (frame true 24_000 0 SingleChannel true)) (budgeted 0 B1Lsf 0 107)
+    -- side information: subband 0 alone has steps, one index for all granules: 26 bits of allocation, 0001 and zeros; 10; 000101
+    ∷ case (sideInformation mono (3 ∷ idle 63) (allWith ShareAll) (indexed 5)) (bits 0 (16 ∷ 0 ∷ 0 ∷ 33 ∷ 64 ∷ idle 169) 34)
+    -- the longest: every slot at place 1, three indices 62 each: 188 bits of allocation (22 times 0001, 24 times 001, 14 times 01), 120 zeros
+    -- of scfsi, 180 times 111110
+    ∷ case (sideInformation stereo (replicate 30 3 ++ (idle 2 ++ (replicate 30 3 ++ idle 2))) (allWith ThreePerGranule) (indexed 62))
+      (bits 0
+      (replicate 11 17 ++ (repeated 3 (36 ∷ 146 ∷ 73 ∷ []) ++ (85 ∷ 85 ∷ 85 ∷ 80 ∷ idle 14 ++ (15 ∷ repeated 44 (190 ∷ 251 ∷ 239 ∷ []) ++ (190 ∷ 251 ∷ 224 ∷ [])))))
+      1388)
+    -- a shared subband whose channels differ is 6; steps that the row of a lower one lacks are 7 before it, those of its own come behind it
+    ∷ case (sideInformation joint (around4 0 3 5) (allWith ShareAll) (indexed 5)) (bits 6 (idle 174) 0)
+    ∷ case (sideInformation joint (around4 4 3 5) (allWith ShareAll) (indexed 5)) (bits 7 (idle 174) 0)
+    ∷ case (sideInformation joint (around4 0 4 5) (allWith ShareAll) (indexed 5)) (bits 6 (idle 174) 0)
+    -- an index of 63 is 8 where a slot is active, sent or not, but not before 6 and 7; where no slot is, no index is looked at
+    ∷ case (sideInformation mono (3 ∷ idle 63) (allWith ShareAll) (0 ∷ 63 ∷ idle 190)) (bits 8 (idle 174) 0)
+    ∷ case (sideInformation joint (around4 0 3 5) (allWith ShareAll) (indexed 63)) (bits 6 (idle 174) 0)
+    ∷ case (sideInformation mono (idle 64) (allWith ShareAll) (indexed 63)) (bits 0 (idle 174) 26)
+    -- the second channel of a single one and what lies above the table are not read
+    ∷ case (sideInformation mono (idle 8 ++ replicate 56 4) (allWith ShareAll) (indexed 63)) (bits 0 (idle 174) 26)
+    -- the header is asked first
+    ∷ case (sideInformation (frame false 48_000 64_999 SingleChannel true) (4 ∷ idle 63) (allWith ShareAll) (indexed 63)) (bits 16 (idle 174) 0)
     -- the scalefactor indices 10, 12, 11 become one; 0, 3, 3 stay; 0, 2, 4 become the smallest
     ∷ case (used 10 12 11) (indices (10 ∷ 10 ∷ 10 ∷ []))
     ∷ case (used 0 3 3) (indices (0 ∷ 3 ∷ 3 ∷ []))

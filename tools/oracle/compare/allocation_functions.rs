@@ -1,6 +1,6 @@
 //! Allocations and demands.
 
-use crate::case::{Case, Function, Memories, Out};
+use crate::case::{Case, Function, Memories, Out, doubles};
 use crate::header_functions::*;
 use crate::library::*;
 use questions::allocation_kinds::{charged, ratios_of};
@@ -13,9 +13,9 @@ use reference::encoder_bit_allocator::{allocate_bits, demand_bits};
 pub const FUNCTIONS: [Function; 2] = [
     Function {
         name: "demand_bits",
-        share: 9,
+        share: 8,
         arguments: HEAD,
-        doubles: SLOTS,
+        ins: &[doubles(SLOTS)],
         outs: &[Out {
             name: "out",
             width: 8,
@@ -23,12 +23,12 @@ pub const FUNCTIONS: [Function; 2] = [
         }],
         draw: draw_demand,
         library: |case, [out, _]| {
-            let ratios = case.doubles.as_ptr().cast();
+            let ratios = case.ins[0].as_ptr().cast();
             call_with_head!(
                 folgrist_demand_bits,
                 case.numbers,
                 ratios,
-                case.doubles.len(),
+                case.ins[0].len(),
                 out.pointer(),
                 case.lengths[0]
             )
@@ -39,7 +39,7 @@ pub const FUNCTIONS: [Function; 2] = [
         name: ALLOCATE,
         share: 16,
         arguments: &HEAD_AND_BANC,
-        doubles: SLOTS,
+        ins: &[doubles(SLOTS)],
         outs: &[
             Out {
                 name: "steps",
@@ -54,13 +54,13 @@ pub const FUNCTIONS: [Function; 2] = [
         ],
         draw: draw_allocation,
         library: |case, [steps, out]| {
-            let ratios = case.doubles.as_ptr().cast();
+            let ratios = case.ins[0].as_ptr().cast();
             call_with_head!(
                 folgrist_allocate_bits,
                 case.numbers,
                 case.numbers[BANC] as u32,
                 ratios,
-                case.doubles.len(),
+                case.ins[0].len(),
                 steps.pointer(),
                 case.lengths[0],
                 out.pointer(),
@@ -79,7 +79,7 @@ fn draw_ratios(case: &mut Case, random: &mut Random) {
     let mut head: Head = [0; 7];
     head.copy_from_slice(&case.numbers[..7]);
     let pattern = any_pattern(random);
-    case.doubles.extend(ratios_for(&head, pattern, random));
+    case.ins[0].extend(ratios_for(&head, pattern, random));
 }
 
 fn draw_demand(case: &mut Case, random: &mut Random) {
@@ -101,7 +101,7 @@ fn draw_allocation(case: &mut Case, random: &mut Random) {
 fn answer_demand(case: &Case, [out, _]: &mut Memories) -> u32 {
     let number = refusal(&case.numbers);
     let bits = match number {
-        0 => demand_bits(&header_of(&case.numbers), &ratios_of(&case.doubles)),
+        0 => demand_bits(&header_of(&case.numbers), &ratios_of(&case.ins[0])),
         _ => Ok(0),
     };
     out.put(8, 0, bits.unwrap_or(0));
@@ -126,7 +126,7 @@ fn answer_allocation(case: &Case, [steps, out]: &mut Memories) -> u32 {
             .for_each(|(at, &value)| out.put(4, at, value));
         return TOO_SMALL;
     }
-    let ratios = ratios_of(&case.doubles);
+    let ratios = ratios_of(&case.ins[0]);
     let Ok(data) = allocate_bits(&header_of(&case.numbers), &ratios, banc as u32) else {
         panic!("the Rust refuses an allocation that fits");
     };

@@ -1,10 +1,12 @@
-//! What is timed: five functions, on the headers and inputs of an encoder.
+//! What is timed: six functions, on the headers and inputs of an encoder.
 
 use crate::bench_inputs::{FRAME_LEN, HEADS, frames, ratio_sets};
 use crate::case::Memory;
 use crate::header_functions::call_with_head;
 use crate::library::*;
 use crate::scalefactor_functions::frame_of;
+use crate::side_info_bench::time_side_info;
+use crate::side_info_functions::SIDE_INFO;
 use crate::timing::{Row, Times, measure, table};
 use questions::allocation_kinds::ratios_of;
 use questions::heads::{Head, header_of};
@@ -23,7 +25,7 @@ const BATCH: usize = 256;
 
 type Timed = (&'static str, fn() -> Vec<Row>);
 
-const TIMED: [Timed; 6] = [
+const TIMED: [Timed; 7] = [
     ("allocate_bits", || by_header(ratio_sets(), time_allocation)),
     ("demand_bits", || by_header(ratio_sets(), time_demand)),
     ("compute_scalefactors", || {
@@ -35,6 +37,7 @@ const TIMED: [Timed; 6] = [
         || by_steps(true),
     ),
     ("select_scfsi", time_selections),
+    (SIDE_INFO, time_side_info),
 ];
 
 /// All, or those whose names begin with one of the words; false where a word names none.

@@ -1,5 +1,5 @@
 //! Wrong answers on purpose: one for each function, some about the ladder, one for each rule of an
-//! allocation.
+//! allocation, and those about side information.
 
 use crate::allocation_functions::ALLOCATE;
 use crate::case::{Case, Function, OUT_OF_RANGE, Reply, SHORT_SLICE};
@@ -7,11 +7,12 @@ use crate::header_functions::{BANC, refusal_on_ladder};
 use crate::judge::{ANSWER, Break};
 use crate::layout::Field;
 use crate::rules::{Held, LAYOUT, PART_2, PART_3, PART_4, ROW, SHARED};
+use crate::side_info_breaks;
 use questions::heads::{BIT_RATE, LSF};
 use questions::ladder::{OFF_LADDER, ladder};
 use questions::ratios::{SLOTS, SUBBANDS};
 
-/// Where a slice is read, the answer of a function is spoilt only if this double is not 0.
+/// Where a slice is read, the answer of a function is spoilt only if this element of it is not 0.
 pub const READ: usize = 5;
 
 pub fn breaks(functions: &[Function]) -> Vec<Break> {
@@ -23,7 +24,13 @@ pub fn breaks(functions: &[Function]) -> Vec<Break> {
     };
     let mut breaks: Vec<Break> = functions.iter().map(of_function).collect();
     breaks.extend(LADDER);
-    breaks.extend([
+    breaks.extend(side_info_breaks::BREAKS);
+    breaks.extend(of_allocations());
+    breaks
+}
+
+fn of_allocations() -> [Break; 9] {
+    [
         answer("short", |_, _, reply| {
             renumber(reply, SHORT_SLICE, OUT_OF_RANGE)
         }),
@@ -51,11 +58,10 @@ pub fn breaks(functions: &[Function]) -> Vec<Break> {
         rule("part4", PART_4, |_, case, reply| {
             change_held(case, reply, exchange_steps)
         }),
-    ]);
-    breaks
+    ]
 }
 
-type Change = fn(&Function, &Case, &mut Reply);
+pub type Change = fn(&Function, &Case, &mut Reply);
 
 /// 1 for 16 in each function that asks for the ladder; 16 for a rate on it, behind 1 and 2, and with
 /// something beside it.
@@ -121,7 +127,7 @@ fn rule(name: &'static str, difference: &'static str, change: Change) -> Break {
 }
 
 fn spoil(function: &Function, case: &Case, reply: &mut Reply) {
-    if function.doubles > 0 && case.doubles.get(READ).is_none_or(|&bits| bits == 0) {
+    if !function.ins.is_empty() && case.ins[0].get(READ).is_none_or(|&element| element == 0) {
         return;
     }
     if function.outs.is_empty() {
@@ -132,7 +138,7 @@ fn spoil(function: &Function, case: &Case, reply: &mut Reply) {
     }
 }
 
-fn renumber(reply: &mut Reply, from: u32, to: u32) {
+pub fn renumber(reply: &mut Reply, from: u32, to: u32) {
     if reply.number == from {
         reply.number = to;
     }
@@ -160,7 +166,7 @@ fn change_held(case: &Case, reply: &mut Reply, change: fn(&Held, &mut Reply, &[u
     if reply.number == 0
         && let Ok(held) = Held::read(case, reply)
     {
-        change(&held, reply, &case.doubles);
+        change(&held, reply, &case.ins[0]);
     }
 }
 

@@ -15,13 +15,16 @@ pub const SHORT_SLICE: u32 = 98;
 pub const OUT_OF_RANGE: u32 = 14;
 pub const NOTHING_THERE: u32 = 97;
 
+/// The most slices that a function reads.
+const READ_SLICES: usize = 3;
+
 /// The arguments of one call.
 #[derive(Clone, Default)]
 pub struct Case {
     /// In the order of the function's arguments; a double is its bits.
     pub numbers: [u64; NUMBERS],
-    /// The slice that is read, as bits.
-    pub doubles: Vec<u64>,
+    /// The slices that are read; a double is its bits.
+    pub ins: [Vec<u64>; READ_SLICES],
     /// The lengths of the slices that are written.
     pub lengths: [usize; 2],
     /// What the memory holds before the call follows from this.
@@ -84,6 +87,23 @@ pub struct Argument {
     pub sort: Sort,
 }
 
+/// A slice that is read: what an element may be, its bytes, and how many there must be.
+pub struct In {
+    pub name: &'static str,
+    pub sort: Sort,
+    pub width: usize,
+    pub count: usize,
+}
+
+pub const fn doubles(count: usize) -> In {
+    In {
+        name: "doubles",
+        sort: Sort::Double,
+        width: 8,
+        count,
+    }
+}
+
 /// A slice that is written: the bytes of an element and how many there must be.
 pub struct Out {
     pub name: &'static str,
@@ -100,10 +120,9 @@ pub struct Function {
     /// So many of a hundred cases.
     pub share: usize,
     pub arguments: &'static [Argument],
-    /// How many doubles the slice that is read must have; 0 where there is none.
-    pub doubles: usize,
+    pub ins: &'static [In],
     pub outs: &'static [Out],
-    /// Draws numbers and doubles.
+    /// Draws the numbers, and as many elements as there must be.
     pub draw: fn(&mut Case, &mut Random),
     pub library: Call,
     /// Asked only where no slice is short and nothing is out of range.
@@ -113,7 +132,7 @@ pub struct Function {
 impl Function {
     pub fn draw_case(&self, case: &mut Case, random: &mut Random) {
         case.fill = random.next();
-        case.doubles.clear();
+        case.ins.iter_mut().for_each(Vec::clear);
         (self.draw)(case, random);
         self.draw_lengths(case, random);
         if !self.arguments.is_empty() && random.one_in(24) {
@@ -126,32 +145,43 @@ impl Function {
         for (length, out) in case.lengths.iter_mut().zip(self.outs) {
             *length = draw_length(out.count, random);
         }
-        if self.doubles > 0 {
-            let length = draw_length(self.doubles, random);
-            case.doubles.resize(length, random.next());
+        for (slice, read) in case.ins.iter_mut().zip(self.ins) {
+            let spare = random.next() >> (64 - 8 * read.width);
+            slice.resize(draw_length(read.count, random), spare);
         }
     }
 
+    /// Puts an element that is read, or else an argument, above what it may be.
     fn leave_range(&self, case: &mut Case, random: &mut Random) {
+        for (slice, read) in case.ins.iter_mut().zip(self.ins) {
+            if let Sort::UpTo(last) = read.sort
+                && !slice.is_empty()
+                && random.one_in(2)
+            {
+                let at = random.below(slice.len() as u64) as usize;
+                slice[at] = above(last, random);
+                return;
+            }
+        }
         let at = random.below(self.arguments.len() as u64) as usize;
         if let Sort::UpTo(last) = self.arguments[at].sort {
-            case.numbers[at] = match random.below(3) {
-                0 => last + 1,
-                1 => u8::MAX.into(),
-                _ => last + 1 + random.below(u64::from(u8::MAX) - last),
-            };
+            case.numbers[at] = above(last, random);
         }
     }
 
     fn is_short(&self, case: &Case) -> bool {
+        let mut ins = case.ins.iter().zip(self.ins);
         let mut outs = case.lengths.iter().zip(self.outs);
-        case.doubles.len() < self.doubles || outs.any(|(&length, out)| length < out.count)
+        ins.any(|(slice, read)| slice.len() < read.count)
+            || outs.any(|(&length, out)| length < out.count)
     }
 
     fn is_out_of_range(&self, case: &Case) -> bool {
+        let above = |sort, number| matches!(sort, Sort::UpTo(last) if number > last);
         let mut arguments = self.arguments.iter().zip(case.numbers);
-        arguments
-            .any(|(argument, number)| matches!(argument.sort, Sort::UpTo(last) if number > last))
+        let mut ins = case.ins.iter().zip(self.ins);
+        arguments.any(|(argument, number)| above(argument.sort, number))
+            || ins.any(|(slice, read)| slice[..read.count].iter().any(|&n| above(read.sort, n)))
     }
 
     /// What is right: the Rust's answer, with the library's own numbers for what it cannot be asked.
@@ -169,6 +199,15 @@ impl Function {
 
     pub fn answered(&self, case: &Case) -> Reply {
         reply(case, self.library)
+    }
+}
+
+/// A byte above this.
+fn above(last: u64, random: &mut Random) -> u64 {
+    match random.below(3) {
+        0 => last + 1,
+        1 => u8::MAX.into(),
+        _ => last + 1 + random.below(u64::from(u8::MAX) - last),
     }
 }
 

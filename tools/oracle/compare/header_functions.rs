@@ -55,9 +55,9 @@ const fn out(width: usize, count: usize) -> Out {
 pub const FUNCTIONS: [Function; 4] = [
     Function {
         name: "select_table",
-        share: 6,
+        share: 5,
         arguments: HEAD,
-        doubles: 0,
+        ins: &[],
         outs: &[out(4, 1)],
         draw: draw_any_rates,
         library: |case, [out, _]| {
@@ -76,9 +76,9 @@ pub const FUNCTIONS: [Function; 4] = [
     },
     Function {
         name: "frame_size_bytes",
-        share: 6,
+        share: 5,
         arguments: HEAD,
-        doubles: 0,
+        ins: &[],
         outs: &[out(8, 1)],
         draw: draw_any_rates,
         library: |case, [out, _]| {
@@ -102,9 +102,9 @@ pub const FUNCTIONS: [Function; 4] = [
     },
     Function {
         name: "fixed_bit_budget",
-        share: 7,
+        share: 6,
         arguments: HEAD,
-        doubles: 0,
+        ins: &[],
         outs: &[out(4, 8)],
         draw: draw_head,
         library: |case, [out, _]| {
@@ -119,9 +119,9 @@ pub const FUNCTIONS: [Function; 4] = [
     },
     Function {
         name: "available_data_bits",
-        share: 7,
+        share: 6,
         arguments: &HEAD_AND_BANC,
-        doubles: 0,
+        ins: &[],
         outs: &[out(8, 1)],
         draw: draw_offer_case,
         library: |case, [out, _]| {

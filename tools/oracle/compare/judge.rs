@@ -2,7 +2,10 @@
 
 use crate::allocation_functions::{self, ALLOCATE};
 use crate::case::{Case, Function, Reply};
-use crate::{header_functions, rules, sample_functions, scalefactor_functions, table_functions};
+use crate::{
+    header_functions, rules, sample_functions, scalefactor_functions, side_info_functions,
+    table_functions,
+};
 
 /// Every function of the library.
 pub fn functions() -> Vec<Function> {
@@ -12,6 +15,7 @@ pub fn functions() -> Vec<Function> {
     functions.extend(table_functions::FUNCTIONS);
     functions.extend(scalefactor_functions::FUNCTIONS);
     functions.extend(sample_functions::FUNCTIONS);
+    functions.extend(side_info_functions::FUNCTIONS);
     functions
 }
 

@@ -29,6 +29,11 @@ with_head! {
         banc: u32, smr: *const f64, count: usize,
         steps: *mut u32, steps_length: usize, out: *mut u32, length: usize
     );
+    folgrist_write_side_info(
+        steps: *const u32, steps_count: usize, scfsi: *const u8, scfsi_count: usize,
+        index: *const u8, index_count: usize,
+        bytes: *mut u8, bytes_length: usize, out: *mut u32, length: usize
+    );
 }
 
 unsafe extern "C" {

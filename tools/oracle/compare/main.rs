@@ -16,6 +16,9 @@ mod sample_functions;
 mod scalefactor_functions;
 mod selfcheck;
 mod shrink;
+mod side_info_bench;
+mod side_info_breaks;
+mod side_info_functions;
 mod table_functions;
 mod timing;
 

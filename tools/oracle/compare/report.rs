@@ -9,25 +9,24 @@ fn double(bits: u64) -> String {
     format!("{:?} ({bits:#018x})", f64::from_bits(bits))
 }
 
-/// The input, one argument a line; doubles that are 0 are left out of the slice.
+fn shown(number: u64, sort: Sort) -> String {
+    match sort {
+        Sort::Double => double(number),
+        _ => number.to_string(),
+    }
+}
+
+/// The input, one argument a line; of a slice what is 0 is left out.
 pub fn input(function: &Function, case: &Case) -> String {
     let mut text = String::new();
     for (argument, &number) in function.arguments.iter().zip(&case.numbers) {
-        let value = match argument.sort {
-            Sort::Double => double(number),
-            _ => number.to_string(),
-        };
+        let value = shown(number, argument.sort);
         text += &format!("    {} = {value}\n", argument.name);
     }
-    if function.doubles > 0 {
-        text += &format!("    {} doubles, 0 but for these:\n", case.doubles.len());
-        for (at, &bits) in case
-            .doubles
-            .iter()
-            .enumerate()
-            .filter(|&(_, &bits)| bits != 0)
-        {
-            text += &format!("        [{at}] = {}\n", double(bits));
+    for (read, slice) in function.ins.iter().zip(&case.ins) {
+        text += &format!("    {} {}, 0 but for these:\n", slice.len(), read.name);
+        for (at, &number) in slice.iter().enumerate().filter(|&(_, &n)| n != 0) {
+            text += &format!("        [{at}] = {}\n", shown(number, read.sort));
         }
     }
     for (out, length) in function.outs.iter().zip(case.lengths) {
@@ -86,11 +85,11 @@ impl Counts {
 
 /// One line for each function that was asked.
 pub fn table(functions: &[Function], counts: &[Counts]) -> String {
-    let columns = [0, 1, 2, 4, 5, 14, 16, 97, 98];
+    let columns = [0, 1, 2, 4, 5, 6, 7, 8, 14, 16, 97, 98];
     let names = columns.map(|number| format!("answer {number}")).join(" | ");
     let mut text = format!(
         "| function | cases | {names} |\n|---|{}\n",
-        "--:|".repeat(10)
+        "--:|".repeat(1 + columns.len())
     );
     let mut lines: Vec<(&str, Vec<u64>)> = Vec::new();
     for (function, counts) in functions

@@ -111,7 +111,7 @@ pub fn broken(case: &Case, reply: &Reply) -> Vec<&'static str> {
     if !held.is_full() {
         rules.push(PART_3);
     }
-    if !held.reads_nan(&case.doubles) && !held.is_fair(&case.doubles) {
+    if !held.reads_nan(&case.ins[0]) && !held.is_fair(&case.ins[0]) {
         rules.push(PART_4);
     }
     rules

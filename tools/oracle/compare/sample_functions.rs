@@ -19,9 +19,9 @@ const fn double(name: &'static str) -> Argument {
 pub const FUNCTIONS: [Function; 2] = [
     Function {
         name: "quantize_sample",
-        share: 5,
+        share: 4,
         arguments: &[STEPS, double("sample")],
-        doubles: 0,
+        ins: &[],
         outs: &[Out {
             name: "code",
             width: 4,
@@ -44,7 +44,7 @@ pub const FUNCTIONS: [Function; 2] = [
         name: "write_triplet",
         share: 4,
         arguments: &[STEPS, double("a"), double("b"), double("c")],
-        doubles: 0,
+        ins: &[],
         outs: &[Out {
             name: "count width codewords",
             width: 4,

@@ -1,6 +1,6 @@
 //! Scalefactor indices and the selection of scfsi.
 
-use crate::case::{Argument, Case, Function, Out, Sort};
+use crate::case::{Argument, Case, Function, Out, Sort, doubles};
 use crate::library::*;
 use questions::doubles::{INFINITIES, NANS, ZEROS, either_sign, specials};
 use questions::random::Random;
@@ -30,12 +30,12 @@ const fn byte(name: &'static str) -> Argument {
 pub const FUNCTIONS: [Function; 4] = [
     Function {
         name: "pick_scalefactor_index",
-        share: 6,
+        share: 5,
         arguments: &[Argument {
             name: "max_abs",
             sort: Sort::Double,
         }],
-        doubles: 0,
+        ins: &[],
         outs: &[],
         draw: |case, random| case.numbers[0] = draw_magnitude(random),
         library: |case, _| unsafe {
@@ -45,18 +45,18 @@ pub const FUNCTIONS: [Function; 4] = [
     },
     Function {
         name: "extract_scalefactor_index",
-        share: 6,
+        share: 5,
         arguments: &[],
-        doubles: GRANULE_LEN,
+        ins: &[doubles(GRANULE_LEN)],
         outs: &[bytes(1)],
-        draw: |case, random| draw_granule(&mut case.doubles, random),
+        draw: |case, random| draw_granule(&mut case.ins[0], random),
         library: |case, [out, _]| unsafe {
-            let samples = case.doubles.as_ptr().cast();
-            let count = case.doubles.len();
+            let samples = case.ins[0].as_ptr().cast();
+            let count = case.ins[0].len();
             folgrist_extract_scalefactor_index(samples, count, out.pointer(), case.lengths[0])
         },
         rust: |case, [out, _]| {
-            let samples = std::array::from_fn(|at| f64::from_bits(case.doubles[at]));
+            let samples = std::array::from_fn(|at| f64::from_bits(case.ins[0][at]));
             out.put(1, 0, extract_scalefactor_index(&samples).into());
             0
         },
@@ -68,16 +68,16 @@ pub const FUNCTIONS: [Function; 4] = [
             name: "limit",
             sort: Sort::Whole,
         }],
-        doubles: FRAME_LEN,
+        ins: &[doubles(FRAME_LEN)],
         outs: &[bytes(96)],
         draw: draw_frame,
         library: |case, [out, _]| unsafe {
-            let (samples, limit) = (case.doubles.as_ptr().cast(), case.numbers[0]);
-            let count = case.doubles.len();
+            let (samples, limit) = (case.ins[0].as_ptr().cast(), case.numbers[0]);
+            let count = case.ins[0].len();
             folgrist_compute_scalefactors(samples, count, limit, out.pointer(), case.lengths[0])
         },
         rust: |case, [out, _]| {
-            let samples = frame_of(&case.doubles);
+            let samples = frame_of(&case.ins[0]);
             let indices = compute_scalefactors(&samples, case.numbers[0] as usize);
             for (at, &index) in indices.iter().flatten().enumerate() {
                 out.put(1, at, index.into());
@@ -87,9 +87,9 @@ pub const FUNCTIONS: [Function; 4] = [
     },
     Function {
         name: "select_scfsi",
-        share: 6,
+        share: 5,
         arguments: &[byte("a"), byte("b"), byte("c")],
-        doubles: 0,
+        ins: &[],
         outs: &[bytes(9)],
         draw: draw_indices,
         library: |case, [out, _]| unsafe {
@@ -154,11 +154,11 @@ fn draw_frame(case: &mut Case, random: &mut Random) {
         _ => 32,
     };
     let sparse = random.one_in(2);
-    while case.doubles.len() < FRAME_LEN {
+    while case.ins[0].len() < FRAME_LEN {
         if sparse && !random.one_in(8) {
-            case.doubles.extend([0; GRANULE_LEN]);
+            case.ins[0].extend([0; GRANULE_LEN]);
         } else {
-            draw_granule(&mut case.doubles, random);
+            draw_granule(&mut case.ins[0], random);
         }
     }
 }

@@ -1,7 +1,7 @@
 //! Spoils the library's answers one way at a time and sees that each is noticed and shrunk.
 
 use crate::breaks::READ;
-use crate::case::Function;
+use crate::case::{Case, Function};
 use crate::judge::{Break, judge};
 use crate::report;
 use crate::run::{Cases, Found, go, shrunk};
@@ -58,28 +58,31 @@ fn check_shrunk(
     {
         return Err("shrunk to a case without the difference".to_string());
     }
-    let before = found.case.doubles.iter().filter(|&&bits| bits != 0).count();
-    let nonzero: Vec<usize> = (0..small.doubles.len())
-        .filter(|&at| small.doubles[at] != 0)
-        .collect();
-    if broken.name == function.name && function.doubles > 0 && nonzero != [READ] {
-        return Err(format!(
-            "shrunk to doubles at {nonzero:?}, not at {READ} alone"
-        ));
+    let (before, left) = (nonzero(&found.case), nonzero(&small));
+    if broken.name == function.name && !function.ins.is_empty() && left != [(0, READ)] {
+        return Err(format!("shrunk to {left:?}, not to {READ} alone"));
     }
     if shown {
         print!("{}", report::difference(function, &small, Some(broken)));
     }
-    let doubles = match function.doubles {
-        0 => String::new(),
-        _ => format!(
-            ", doubles that are not 0: {before}, shrunk {}",
-            nonzero.len()
-        ),
+    let counts = match function.ins {
+        [] => String::new(),
+        _ => format!(", read and not 0: {}, shrunk {}", before.len(), left.len()),
     };
     let words = found.differences.join("; ");
     Ok(format!(
-        "reported at case {} ({words}){doubles}",
+        "reported at case {} ({words}){counts}",
         found.number
     ))
+}
+
+/// Slice and place of each element that is read and is not 0.
+fn nonzero(case: &Case) -> Vec<(usize, usize)> {
+    let slices = case.ins.iter().enumerate();
+    slices
+        .flat_map(|(slice, elements)| {
+            let places = (0..elements.len()).filter(|&at| elements[at] != 0);
+            places.map(move |at| (slice, at))
+        })
+        .collect()
 }

@@ -41,8 +41,10 @@ impl Shrinking<'_> {
                 changed |= self.attempt(|case| case.lengths[at] = out.count);
             }
         }
-        if self.best.doubles.len() != function.doubles {
-            changed |= self.attempt(|case| case.doubles.resize(function.doubles, 0));
+        for (at, read) in function.ins.iter().enumerate() {
+            if self.best.ins[at].len() != read.count {
+                changed |= self.attempt(|case| case.ins[at].resize(read.count, 0));
+            }
         }
         changed
     }
@@ -59,18 +61,16 @@ impl Shrinking<'_> {
         }
     }
 
-    /// Zeros ever smaller runs of the doubles, at last each by itself.
-    fn zeros(&mut self) -> bool {
-        let (mut changed, count) = (false, self.best.doubles.len());
+    /// Zeros ever smaller runs of a slice, at last each element by itself.
+    fn zeros(&mut self, slice: usize) -> bool {
+        let (mut changed, count) = (false, self.best.ins[slice].len());
         let mut run = count;
         while run > 0 {
             for start in (0..count).step_by(run) {
                 let range = start..count.min(start + run);
-                if self.best.doubles[range.clone()]
-                    .iter()
-                    .any(|&bits| bits != 0)
-                {
-                    changed |= self.attempt(|case| case.doubles[range.clone()].fill(0));
+                let elements = &self.best.ins[slice][range.clone()];
+                if elements.iter().any(|&element| element != 0) {
+                    changed |= self.attempt(|case| case.ins[slice][range.clone()].fill(0));
                 }
             }
             run /= 2;
@@ -78,12 +78,12 @@ impl Shrinking<'_> {
         changed
     }
 
-    fn doubles(&mut self) -> bool {
-        let mut changed = self.zeros();
-        for at in 0..self.best.doubles.len() {
-            let candidates = simpler_double(self.best.doubles[at]);
+    fn elements(&mut self, slice: usize, sort: Sort) -> bool {
+        let mut changed = self.zeros(slice);
+        for at in 0..self.best.ins[slice].len() {
+            let candidates = simpler(self.best.ins[slice][at], sort);
             let mut tried = candidates.into_iter();
-            changed |= tried.any(|bits| self.attempt(|case| case.doubles[at] = bits));
+            changed |= tried.any(|value| self.attempt(|case| case.ins[slice][at] = value));
         }
         changed
     }
@@ -101,7 +101,9 @@ pub fn shrink(function: &Function, case: Case, stays: &dyn Fn(&Case) -> bool) ->
         for (at, argument) in function.arguments.iter().enumerate() {
             changed |= shrinking.number(at, argument.sort);
         }
-        changed |= shrinking.doubles();
+        for (slice, read) in function.ins.iter().enumerate() {
+            changed |= shrinking.elements(slice, read.sort);
+        }
         if !changed {
             return shrinking.best;
         }

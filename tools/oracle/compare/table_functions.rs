@@ -39,7 +39,7 @@ pub const FUNCTIONS: [Function; 6] = [
         name: "table_limits",
         share: 3,
         arguments: &[TABLE, whole("sb")],
-        doubles: 0,
+        ins: &[],
         outs: &[out(2)],
         draw: draw_place,
         library: |case, [out, _]| unsafe {
@@ -55,9 +55,9 @@ pub const FUNCTIONS: [Function; 6] = [
     },
     Function {
         name: "nb_steps",
-        share: 4,
+        share: 3,
         arguments: &[TABLE, whole("sb"), whole("index")],
-        doubles: 0,
+        ins: &[],
         outs: &[out(1)],
         draw: draw_index,
         library: |case, [out, _]| unsafe {
@@ -82,7 +82,7 @@ pub const FUNCTIONS: [Function; 6] = [
         name: "allocation_index",
         share: 4,
         arguments: &[TABLE, whole("sb"), STEPS],
-        doubles: 0,
+        ins: &[],
         outs: &[out(1)],
         draw: draw_row_steps,
         library: |case, [out, _]| unsafe {
@@ -107,7 +107,7 @@ pub const FUNCTIONS: [Function; 6] = [
         name: "class_of_quantization",
         share: 3,
         arguments: &[STEPS],
-        doubles: 0,
+        ins: &[],
         outs: &[
             Out {
                 name: "cd",
@@ -128,7 +128,7 @@ pub const FUNCTIONS: [Function; 6] = [
         name: "sample_bits_for",
         share: 3,
         arguments: &[STEPS],
-        doubles: 0,
+        ins: &[],
         outs: &[],
         draw: |case, random| case.numbers[0] = draw_steps(random),
         library: |case, _| unsafe { folgrist_sample_bits_for(case.numbers[0] as u32) },
@@ -138,7 +138,7 @@ pub const FUNCTIONS: [Function; 6] = [
         name: "snr_db",
         share: 2,
         arguments: &[STEPS],
-        doubles: 0,
+        ins: &[],
         outs: &[Out {
             name: "out",
             width: 8,

@@ -49,18 +49,18 @@ array-read-t30 c = search needs
 array-read-t27 : tie.Need-array-read-t27
 array-read-t27 c = search needs
 
-array-read-scfsi-of : tie.Need-array-read-scfsi-of
-array-read-scfsi-of c = search needs
+array-read-of-code : tie.Need-array-read-of-code
+array-read-of-code c = search needs
 
-scfsi-of-requires : tie.Need-scfsi-of-requires
-scfsi-of-requires c κs = search needs
+of-code-requires : tie.Need-of-code-requires
+of-code-requires c κs = search needs
 
 returns : tie.Need-returns
 returns c =
     let n = c .before .before .before in
     let r = n .before in
     selected _ _ _ _ _ _ _ _ _ _ (r .before .before .class-of-difference .ensures) (r .before .class-of-difference2 .ensures)
-    (r .row-of .ensures) (n .named .ensures) (c .before .before .named2 .ensures) (c .before .named3 .ensures) (c .scfsi-of .ensures)
+    (r .row-of .ensures) (n .named .ensures) (c .before .before .named2 .ensures) (c .before .named3 .ensures) (c .of-code .ensures)
 
 pub select-scfsi-spec : {M : Type 1} → statement M
 select-scfsi-spec =
@@ -81,6 +81,6 @@ select-scfsi-spec =
     array-read-t14
     array-read-t30
     array-read-t27
-    array-read-scfsi-of
-    scfsi-of-requires
+    array-read-of-code
+    of-code-requires
     returns)

@@ -1,6 +1,6 @@
 -- `worked_cases::count` meets its contract: antt computes the answers of the table, but for the one whose ratios decide nothing by a law.
 use mathlib.Core.Path.{_≡_, refl, ap₂}
-use mathlib.Core.List.{List, _∷_, _++_}
+use mathlib.Core.List.{List, _∷_, _++_, flatMap}
 use Prim.Native.Nat.{ℕ, _<_}
 use lib.Dec.{ltb, ltb→lt}
 use lib.Ieee.{Float, le, sub}
@@ -11,21 +11,24 @@ use Rattle.bitalloc.specs.declared.BitAllocTable.the-variants.{B2c}
 use Rattle.tables.specs.Scalefactors.{scalefactors}
 use Rattle.tables.specs.Search.{oneOf}
 use Rattle.ladder.specs.Ladder.{onLadder, ladder, lsfLadder}
-use Rattle.bitalloc.specs.Tables.{nbalOf, rowOf}
+use Rattle.bitalloc.specs.Tables.{nbalOf, rowOf, indexOf}
 use Rattle.quantization.specs.Classes.{sampleBits}
 use Rattle.table_selection.specs.Select.{tableOf}
 use Rattle.layout.specs.declared.Layout.{Layout}
-use Rattle.layout.specs.Layout.{layoutOf, fieldsOf}
+use Rattle.layout.specs.Layout.{layoutOf, fieldsOf, slotsOf}
 use Rattle.audio_data.specs.Record.{filler}
 use Rattle.encoder_scalefactors.specs.Indices.{pickOf}
 use Rattle.encoder_scfsi.specs.Select.{selection}
 use Rattle.encoder_bit_demand.specs.Snr.{snrOf}
-use Rattle.encoder_bit_budget.specs.Budget.{budgetOf}
+use Rattle.encoder_bit_budget.specs.Budget.{headerAsked, budgetOf}
 use Rattle.allocation_rounds.specs.Rounds.{Rules, price, ended}
 use Rattle.allocation_rounds.proofs.OnTheWay.{end-untouched}
 use Rattle.allocation_run.specs.Entries.{rulesOf, entriesOf}
 use Rattle.allocation_run.specs.Steps.{stepsOf}
 use Rattle.encoder_bit_allocator.specs.Allocation.{worstCase, allocationOf}
+use Rattle.bit_string.specs.Bits.{bitsOf}
+use Rattle.side_info.specs.SideInfo.{activeSlots, recordAsked}
+use Rattle.side_info_writer.specs.Written.{writtenOf}
 use Rattle.worked_cases.specs.Cases.{cases, any, allocation, allocated, mono, idle, answerTo, Hold}
 use Rattle.worked_cases.proofs.count.Statement.{statement}
 use Rattle.worked_cases.proofs.count.Tie as tie
@@ -60,7 +63,7 @@ unfolding cases Hold answerTo oneOf onLadder ladder lsfLadder tableOf nbalOf lay
 first-case smr = refl
 
 other-cases : Hold (drop 2 cases)
-unfolding cases Hold answerTo ended oneOf onLadder ladder lsfLadder tableOf nbalOf rowOf sampleBits snrOf layoutOf fieldsOf budgetOf frameSize filler allocationOf selection scalefactors pickOf le sub
+unfolding cases Hold answerTo writtenOf flatMap bitsOf slotsOf activeSlots indexOf recordAsked headerAsked ended oneOf onLadder ladder lsfLadder tableOf nbalOf rowOf sampleBits snrOf layoutOf fieldsOf budgetOf frameSize filler allocationOf selection scalefactors pickOf le sub
 other-cases smr = refl
 
 holds : Hold cases

@@ -1,71 +1,112 @@
--- `bitalloc::BitAllocTable::allocation_index` meets its contract. The loop's invariant: no place that was passed has the steps.
-use Prim.Native.Nat.{ℕ, _-_, _≤_, _<_}
-use mathlib.Core.Path.{_≡_}
+-- `bitalloc::BitAllocTable::allocation_index` meets its contract: the steps stand at one of three places of the row, if anywhere.
+use mathlib.Core.Path.{_∙_, refl}
 use native.Mathlib.Omega.{arith}
-use lib.ListN.{getD}
+use Rattle.bitalloc.specs.Storage.{rowOf16}
+use Rattle.bitalloc.proofs.RowLaws.{two-flags-small, row-long, index-missing, three-found, three-missed}
 use borrow.Author.Needs.{needs}
-use borrow.Author.Count.{below-more}
-use Rattle.bitalloc.proofs.RowLaws.{index-found, index-missing}
 use Rattle.bitalloc.proofs.BitAllocTable.allocation_index.Statement.{statement}
 use Rattle.bitalloc.proofs.BitAllocTable.allocation_index.Tie as tie
 
-abbrev Inv-loop : tie.InvT-loop
-Inv-loop sb nb-steps places row at₀ at = (at ≤ places) × ((k : ℕ) → k < at → getD row k 0 ≡ nb-steps → ⊥)
-
-abbrev μ-loop : tie.MeasureT-loop
-μ-loop sb nb-steps places row at₀ at = places - at
-
-places-requires : tie.Need-places-requires Inv-loop μ-loop
+places-requires : tie.Need-places-requires
 places-requires c κs = search needs
 
-row-requires : tie.Need-row-requires Inv-loop μ-loop
+returns : tie.Need-returns
+returns c =
+    let places = c .before in
+    index-missing _ _ _ _ (rowOf16 (places .before .args .self) (places .before .args .sb)) refl (places .places .ensures .whole) (λ k h q. omega (arith, c .if1 .taken))
+
+row-requires : tie.Need-row-requires
 row-requires c κs = search needs
 
-loop-holds : tie.Need-loop-holds Inv-loop μ-loop
-loop-holds c = search needs
+first-of-three-requires : tie.Need-first-of-three-requires
+first-of-three-requires c κs =
+    let places = c .before .before in
+    let a = places .before .args in
+    rw (places .places .ensures .whole) (row-long (a .self) (a .sb) (λ z. c .before .if1 .left (places .places .ensures .whole ∙ z)))
 
-mul-if1 : tie.Need-mul-if1 Inv-loop μ-loop
-mul-if1 c = search needs
+mul-place : tie.Need-mul-place
+mul-place c = search needs
 
-array-read-if1 : tie.Need-array-read-if1 Inv-loop μ-loop
-array-read-if1 c = search needs
+array-read-place : tie.Need-array-read-place
+array-read-place c = search needs
 
-cast-t13 : tie.Need-cast-t13 Inv-loop μ-loop
-cast-t13 c = search needs
+cast-place : tie.Need-cast-place
+cast-place c = search needs
 
-returns : tie.Need-returns Inv-loop μ-loop
-returns c =
-    index-found _ _ _ _ _ _ (c .before .before .before .row .ensures) (c .before .before .before .before .places .ensures .whole)
-    (c .before .loop-test .taken) (c .before .before .loop .inv .1) (c .if1 .taken)
+add-place : tie.Need-add-place
+add-place c =
+    let f = two-flags-small (c .before .row .result) (c .before .before .before .before .args .nb-steps) (c .first-of-three .result) in
+    search needs
 
-add-at : tie.Need-add-at Inv-loop μ-loop
-add-at c = search needs
+add-place-2 : tie.Need-add-place-2
+add-place-2 c = search needs
 
-loop-less : tie.Need-loop-less Inv-loop μ-loop
-loop-less c = search needs
+mul-place-2 : tie.Need-mul-place-2
+mul-place-2 c = search needs
 
-loop-again : tie.Need-loop-again Inv-loop μ-loop
-loop-again c = (search needs, below-more _ _ (c .before .before .loop .inv .1) (c .if1 .left))
+array-read-place-2 : tie.Need-array-read-place-2
+array-read-place-2 c = search needs
 
-returns-2 : tie.Need-returns-2 Inv-loop μ-loop
+cast-place-2 : tie.Need-cast-place-2
+cast-place-2 c = search needs
+
+add-place-3 : tie.Need-add-place-3
+add-place-3 c =
+    let f = two-flags-small (c .before .row .result) (c .before .before .before .before .args .nb-steps) (c .first-of-three .result) in
+    search needs
+
+mul-if2 : tie.Need-mul-if2
+mul-if2 c =
+    let f = two-flags-small (c .before .row .result) (c .before .before .before .before .args .nb-steps) (c .first-of-three .result) in
+    search needs
+
+array-read-if2 : tie.Need-array-read-if2
+array-read-if2 c =
+    let f = two-flags-small (c .before .row .result) (c .before .before .before .before .args .nb-steps) (c .first-of-three .result) in
+    search needs
+
+cast-t26 : tie.Need-cast-t26
+cast-t26 c =
+    let f = two-flags-small (c .before .before .row .result) (c .before .before .before .before .before .args .nb-steps) (c .before .first-of-three .result) in
+    search needs
+
+returns-2 : tie.Need-returns-2
 returns-2 c =
-    index-missing _ _ _ _ _ (c .before .before .row .ensures) (c .before .before .before .places .ensures .whole)
-    (λ k l. c .before .loop .inv .1 k (omega arith))
+    let three = c .before in
+    let row = three .before in
+    let places = row .before .before in
+    let r = row .row .result in
+    let n = places .before .args .nb-steps in
+    let s = three .first-of-three .result in
+    three-found _ _ _ _ (row .row .ensures) (places .places .ensures .whole) _ s _ (three .first-of-three .ensures .whole) refl
+    (omega (arith, three .first-of-three .ensures .within, two-flags-small r n s)) (c .if2 .taken)
+
+returns-3 : tie.Need-returns-3
+returns-3 c =
+    let three = c .before in
+    let row = three .before in
+    let places = row .before .before in
+    three-missed _ _ _ _ (row .row .ensures) (places .places .ensures .whole) _ (three .first-of-three .result) _ (three .first-of-three .ensures .whole) refl (c .if2 .left)
 
 pub allocation-index-spec : {M : Type 1} → statement M
 allocation-index-spec =
     tie.close
     (tie.spec
-    Inv-loop
-    μ-loop
     places-requires
-    row-requires
-    loop-holds
-    mul-if1
-    array-read-if1
-    cast-t13
     returns
-    add-at
-    loop-less
-    loop-again
-    returns-2)
+    row-requires
+    first-of-three-requires
+    mul-place
+    array-read-place
+    cast-place
+    add-place
+    add-place-2
+    mul-place-2
+    array-read-place-2
+    cast-place-2
+    add-place-3
+    mul-if2
+    array-read-if2
+    cast-t26
+    returns-2
+    returns-3)

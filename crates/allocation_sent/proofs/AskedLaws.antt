@@ -1,0 +1,97 @@
+-- Every question of the writer is answered yes of the steps that an allocation ends at.
+use mathlib.Core.Path.{_≡_, refl, sym, ap, ap₂, _∙_, subst}
+use mathlib.Core.Bool.{Bool, true, false, cond, _&&_}
+use mathlib.Core.List.{List, [], _∷_, _++_, append-nil, append-assoc, map, flatMap}
+use mathlib.Core.Option.{Option, none, some, Option·map}
+use Prim.Native.Nat.{ℕ, zero, suc, _+_, _*_, _≤_, _<_, zero-le, suc-le-suc}
+use native.Mathlib.Nat.{not-suc-le-zero, le-of-suc-le-suc}
+use native.Mathlib.Decide.{decLt}
+use native.Mathlib.Omega.{arith}
+use lib.Dec.{T, eqb, leb}
+use lib.Ieee.{Float}
+use lib.ListN.{length, getD, List·getD-eq-default}
+use borrow.Author.Tests.{eq-eqb, le-leb}
+use Rattle.tables.specs.Search.{place, oneOf}
+use Rattle.header.specs.Questions.{Question, number}
+use Rattle.header.proofs.QuestionLaws.{said-yes}
+use Rattle.bitalloc.specs.Options.{isSome}
+use Rattle.bitalloc.specs.Tables.{rowOf, indexOf}
+use Rattle.layout.specs.declared.Layout.{Layout}
+use Rattle.layout.specs.declared.AllocationField.{AllocationField}
+use Rattle.layout.specs.Slots.{slotOf}
+use Rattle.layout.specs.Layout.{own, served, fieldsOf, fieldIn, fieldSteps}
+use Rattle.layout.proofs.FieldLaws.{carried}
+use Rattle.allocation_rounds.specs.Rounds.{placeIn}
+use Rattle.allocation_run.proofs.RuleLaws.{sound-row}
+use Rattle.allocation_worth.specs.Worth.{placesFrom, Worth}
+use Rattle.allocation_worth.proofs.WorthLaws.{one-of-head, one-of-tail}
+use Rattle.side_info.specs.SideInfo.{SideInfo, activeSlots, sameSteps, sharedAsked, rowAsked, fieldAsked, scalefactorAsked, recordAsked}
+
+-- ---- lists of questions that are all answered yes
+
+all-pass : {A : Type 0} (asked : A → List (Question ℕ)) (d : A) (rest : List (Question ℕ)) (xs : List A)
+  → ((k : ℕ) → k < length xs → (more : List (Question ℕ)) → number (asked (getD xs k d) ++ more) ≡ number more)
+  → number (flatMap asked xs ++ rest) ≡ number rest
+unfolding flatMap
+all-pass asked d rest [] h = refl
+all-pass asked d rest (x ∷ xs) h =
+    ap number (append-assoc (asked x) (flatMap asked xs) rest)
+    ∙ h 0 (suc-le-suc zero-le) (flatMap asked xs ++ rest)
+    ∙ all-pass asked d rest xs (λ k l. h (suc k) (suc-le-suc l))
+
+all-yes : {A : Type 0} (asked : A → Question ℕ) → ((x : A) → asked x .yes ≡ true) → (xs : List A) → number (map asked xs) ≡ 0
+all-yes asked h [] = refl
+all-yes asked h (x ∷ xs) = said-yes 0 (asked x) (map asked xs) (h x) ∙ all-yes asked h xs
+
+-- ---- a number that a list has is found
+
+some-is : (o : Option ℕ) → isSome o ≡ true → isSome (Option·map suc o) ≡ true
+some-is none e = e
+some-is (some n) e = refl
+
+found : (n : ℕ) (row : List ℕ) (i : ℕ) → i < length row → getD row i 0 ≡ n → isSome (place (λ m. eqb m n) row) ≡ true
+found n [] i h e = absurd (not-suc-le-zero h)
+found n (m ∷ row) zero h e = rw (eq-eqb m n e)
+found n (m ∷ row) (suc i) h e = go (eqb m n) (found n row i (le-of-suc-le-suc h) e)
+  where
+    go : (b : Bool) → isSome (place (λ k. eqb k n) row) ≡ true → isSome (cond b (some 0) (Option·map suc (place (λ k. eqb k n) row))) ≡ true
+    go true r = refl
+    go false r = some-is (place (λ k. eqb k n) row) r
+
+-- a row has what stands at any of its places, and 0, which `getD` gives behind them
+row-has : (n : ℕ) (row : List ℕ) (p : ℕ) → 0 < length row → getD row 0 0 ≡ 0 → getD row p 0 ≡ n → isSome (place (λ m. eqb m n) row) ≡ true
+row-has n row p long zeroth e = go (decLt p (length row))
+  where
+    go : Dec (p < length row) → isSome (place (λ m. eqb m n) row) ≡ true
+    go (yes h) = found n row p h e
+    go (no h) = found n row 0 long (zeroth ∙ sym (List·getD-eq-default row 0 {n = p} (omega arith)) ∙ e)
+
+-- ---- the fields
+
+all-same : (steps : List ℕ) (x : AllocationField) (chs : List ℕ)
+  → ((ch : ℕ) → T (oneOf chs ch) → getD steps (slotOf ch (x .subband)) 0 ≡ fieldSteps steps x) → sameSteps steps x chs ≡ true
+all-same steps x [] h = refl
+all-same steps x (ch ∷ chs) h =
+    ap₂ _&&_ (eq-eqb (getD steps (slotOf ch (x .subband)) 0) (fieldSteps steps x) (h ch (one-of-head ch chs)))
+    (all-same steps x chs (λ c t. h c (one-of-tail ch c chs t)))
+
+module _ (l : Layout) (smr : List (List Float)) (costs : List ℕ) (offered left : ℕ) (r : SideInfo) (w : Worth l smr costs offered (r .steps) left) where
+  field-passes : (f : ℕ) → f < length (fieldsOf l) → (more : List (Question ℕ)) → number (fieldAsked l r (fieldIn (fieldsOf l) f) ++ more) ≡ number more
+  unfolding indexOf
+  field-passes f h more =
+      let x = fieldIn (fieldsOf l) f in
+      let t = l .table in
+      let row = rowOf t (x .subband) in
+      let sound = sound-row t (x .subband) (carried l f h) in
+      said-yes 0 (sharedAsked r x) (rowAsked l r x ∷ more) (all-same (r .steps) x (served x) (λ ch c. w .both f ch h c))
+      ∙ said-yes 0 (rowAsked l r x) more
+        (row-has (fieldSteps (r .steps) x) row (placeIn (placesFrom l (r .steps)) f) (let m = sound .some in omega arith) (sound .zeroth) (w .inRow f h))
+
+  pub passes : ((i : ℕ) → getD (r .scalefactors) i 0 ≤ 62) → number (recordAsked l r) ≡ 0
+  unfolding recordAsked
+  passes small =
+      all-pass (fieldAsked l r) (own 0 0) (map (scalefactorAsked r) (activeSlots l (r .steps))) (fieldsOf l) field-passes
+      ∙ all-yes (scalefactorAsked r) tabled-slot (activeSlots l (r .steps))
+    where
+      tabled-slot : (slot : ℕ) → scalefactorAsked r slot .yes ≡ true
+      tabled-slot slot = ap₂ _&&_ (ap₂ _&&_ (le-leb _ 62 (small (3 * slot))) (le-leb _ 62 (small (3 * slot + 1)))) (le-leb _ 62 (small (3 * slot + 2)))

@@ -1,0 +1,88 @@
+// The kind of side information.
+use crate::arguments::OptionHeader;
+use crate::arguments::header_of;
+use audio_data::Scfsi;
+use audio_data::ScfsiSlot;
+use replay_answers::Verdict;
+use replay_answers::same_numbers;
+use replay_answers::verdict_of;
+use side_info_writer::WrittenSideInfo;
+
+// H, 64 numbers of steps, 2 numbers of 32 scfsi codes each, 24 numbers of 8 indices each -> number, bits used, 22 numbers of 8 bytes each. What is
+// packed has its first in the lowest bits of a number.
+pub fn write_side_info(count: usize, numbers: &[u64; 256]) -> Verdict {
+    let OptionHeader::Some(header) = header_of(numbers) else {
+        return Verdict::Unread;
+    };
+    let mut steps = [0; 64];
+    let read = read_steps(numbers, &mut steps);
+    let written = side_info_writer::write_side_info(header, steps, scfsi_of(numbers), indices_of(numbers));
+    verdict_of(read & (count == 122), same_written(numbers, written))
+}
+
+// Reads the steps of a line, and answers false where some are too many for the library.
+fn read_steps(numbers: &[u64; 256], steps: &mut [u32; 64]) -> bool {
+    let mut all: u64 = 0;
+    let mut slot: usize = 0;
+    while slot < 64 {
+        let n = numbers[8 + slot];
+        all = all | n;
+        steps[slot] = (n % 0x1_0000_0000) as u32;
+        slot = slot + 1;
+    }
+    all <= 0xffff_ffff
+}
+
+// The scfsi of a line.
+fn scfsi_of(numbers: &[u64; 256]) -> [ScfsiSlot; 64] {
+    let mut slots = [ScfsiSlot {
+        scfsi: Scfsi::ThreePerGranule,
+    }; 64];
+    let mut slot: usize = 0;
+    while slot < 64 {
+        slots[slot] = ScfsiSlot {
+            scfsi: code_in(numbers[72 + slot / 32], slot),
+        };
+        slot = slot + 1;
+    }
+    slots
+}
+
+// The scfsi of a slot in the number that holds its code.
+fn code_in(n: u64, slot: usize) -> Scfsi {
+    Scfsi::of_code(((n >> (2 * (slot % 32))) % 4) as u8)
+}
+
+// The scalefactor indices of a line.
+fn indices_of(numbers: &[u64; 256]) -> [u8; 192] {
+    let mut indices = [0; 192];
+    let mut i: usize = 0;
+    while i < 192 {
+        indices[i] = byte_in(numbers[74 + i / 8], i);
+        i = i + 1;
+    }
+    indices
+}
+
+// A byte in the number that holds it, by its place among all.
+fn byte_in(n: u64, place: usize) -> u8 {
+    ((n >> (8 * (place % 8))) % 256) as u8
+}
+
+// Whether a line expects what was written.
+fn same_written(numbers: &[u64; 256], written: WrittenSideInfo) -> bool {
+    let bytes = written.bytes;
+    let answers = [written.number as u64, written.bits_used as u64];
+    same_numbers(numbers, 98, &answers) & same_bytes(numbers, &bytes)
+}
+
+// Whether the last numbers of a line hold these bytes; the two bytes that its last one has room for besides are 0.
+fn same_bytes(numbers: &[u64; 256], bytes: &[u8; 174]) -> bool {
+    let mut same = numbers[121] < 0x1_0000_0000_0000;
+    let mut i: usize = 0;
+    while i < 174 {
+        same = same & (byte_in(numbers[100 + i / 8], i) == bytes[i]);
+        i = i + 1;
+    }
+    same
+}

@@ -1,0 +1,6 @@
+pub mod PenLaws
+pub mod PartLaws
+pub mod PlaceLaws
+pub mod AskedLaws
+pub mod ActiveLaws
+pub mod WholeLaws

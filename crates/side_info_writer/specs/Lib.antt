@@ -1,0 +1,3 @@
+pub mod Written
+pub mod Pen
+pub mod OnTheWay

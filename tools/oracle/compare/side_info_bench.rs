@@ -1,0 +1,114 @@
+//! Times the writing of side information, on so many different records that no branch predictor
+//! learns them.
+
+use crate::bench_inputs::{SIDE_INFO_HEADS, any_records, encoded_records};
+use crate::case::Memory;
+use crate::header_functions::call_with_head;
+use crate::library::*;
+use crate::timing::{Row, Times, measure};
+use packed::audio_data::{AudioData, parse_audio_data, write_audio_data_with_section_bits};
+use packed::header::FrameHeader;
+use packing::bits::{BitReader, BitWriter};
+use questions::heads::{Head, header_of};
+use questions::served::budget_of;
+use questions::side_info::{BYTES, Record, written};
+use std::hint::black_box;
+
+/// The slices of a call.
+struct Slices {
+    steps: Vec<u32>,
+    scfsi: Vec<u8>,
+    index: Vec<u8>,
+}
+
+fn slices_of(record: &Record) -> Slices {
+    let bytes = |numbers: &[u64]| numbers.iter().map(|&number| number as u8).collect();
+    Slices {
+        steps: record.steps.iter().map(|&steps| steps as u32).collect(),
+        scfsi: bytes(&record.scfsi),
+        index: bytes(&record.index),
+    }
+}
+
+/// A row for each header: records as an encoder makes them, then any.
+pub fn time_side_info() -> Vec<Row> {
+    let row = |(label, head): &(&str, Head)| Row {
+        label: label.to_string(),
+        sets: [encoded_records(head), any_records(head)]
+            .iter()
+            .map(|records| time_records(head, records))
+            .collect(),
+    };
+    SIDE_INFO_HEADS.iter().map(row).collect()
+}
+
+/// The header and the records of the Rust that is timed: it reads them from what the other wrote.
+fn read_back(head: &Head, records: &[Record]) -> (FrameHeader, Vec<AudioData>) {
+    let bytes = header_of(head)
+        .emit_bytes()
+        .expect("a header of the standards");
+    let header = FrameHeader::parse(&bytes).expect("the same header");
+    let budget = budget_of(head).expect("a header that is served");
+    let data = |record: &Record| {
+        let writer =
+            written(head, &budget, record).unwrap_or_else(|number| panic!("refused: {number}"));
+        parse_audio_data(&header, &mut BitReader::new(&writer.bytes())).expect("what was written")
+    };
+    let records = records.iter().map(data).collect();
+    (header, records)
+}
+
+fn call_library(head: &Head, slices: &Slices, bytes: &mut Memory, out: &mut Memory) -> u32 {
+    call_with_head!(
+        folgrist_write_side_info,
+        head,
+        slices.steps.as_ptr(),
+        slices.steps.len(),
+        slices.scfsi.as_ptr(),
+        slices.scfsi.len(),
+        slices.index.as_ptr(),
+        slices.index.len(),
+        bytes.pointer(),
+        BYTES,
+        out.pointer(),
+        1
+    )
+}
+
+/// The Rust's writer is emptied for each record, so no memory is asked for.
+fn call_rust<'a>(header: &FrameHeader, data: &AudioData, writer: &'a mut BitWriter) -> &'a [u8] {
+    writer.clear();
+    let _ = black_box(write_audio_data_with_section_bits(header, data, writer));
+    writer.finish()
+}
+
+fn time_records(head: &Head, records: &[Record]) -> Times {
+    let (header, data) = read_back(head, records);
+    let slices: Vec<Slices> = records.iter().map(slices_of).collect();
+    let (mut bytes, mut out) = (Memory::filled(0), Memory::filled(0));
+    let mut writer = BitWriter::new();
+    for (data, slices) in data.iter().zip(&slices) {
+        let number = call_library(head, slices, &mut bytes, &mut out);
+        let rust = call_rust(&header, data, &mut writer);
+        let as_long = rust.len() as u64 == out.get(4, 0).div_ceil(8);
+        let same = (0..rust.len()).all(|at| bytes.get(1, at) == rust[at].into());
+        assert!(number == 0 && as_long && same, "what is timed differs");
+    }
+    let rust = || {
+        for data in &data {
+            black_box(call_rust(black_box(&header), black_box(data), &mut writer));
+        }
+    };
+    let library = || {
+        for slices in &slices {
+            black_box(call_library(
+                black_box(head),
+                black_box(slices),
+                &mut bytes,
+                &mut out,
+            ));
+            black_box((&bytes, &out));
+        }
+    };
+    measure(records.len(), rust, library)
+}
