@@ -36,8 +36,8 @@ struct arguments {
 /* The seven arguments of a header, in their order. */
 #define HEADER(a) (a)->lsf, (a)->bit_rate, (a)->sample_rate, (a)->padding, (a)->protection_bit, (a)->mode, (a)->mode_extension
 
-/* A function's arrays: one that is read, one that is written before `out`, and `out`; and two more that are read. */
-enum array { READ, FIRST, OUT, READ_2, READ_3, ARRAYS };
+/* A function's arrays: one that is read, one that is written before `out`, and `out`; two more that are read, and two that are written. */
+enum array { READ, FIRST, OUT, READ_2, READ_3, SECOND, THIRD, ARRAYS };
 
 static double input[1160];
 
@@ -47,7 +47,7 @@ static union memory {
     uint64_t longs[64];
     int64_t integers[64];
     double doubles[64];
-} first, out;
+} first, second, third, out;
 
 /* Elements behind those that a function asks for. */
 #define SPARE 3
@@ -55,12 +55,23 @@ static union memory {
 /* What the memory holds before a call. */
 #define FILL 0xA5
 
-/* The record of side information that is read. */
+/* The record of side information that is read, or that is expected. */
 static struct side_info {
     uint32_t steps[64 + SPARE];
     uint8_t scfsi[64 + SPARE];
     uint8_t index[192 + SPARE];
 } record;
+
+/* The bytes of side information that are read: the first `count`. */
+static struct {
+    uint8_t bytes[200];
+    size_t count;
+} source;
+
+/* What a call has to write into each array; null: nothing is written there. */
+struct written {
+    const void *first, *second, *third, *out;
+};
 
 struct function {
     const char *name;
@@ -86,7 +97,7 @@ static void check(const char *name, const char *what, int good)
 /* The line of a function, behind its checks. */
 static void done(const char *name)
 {
-    printf("%-28s %3u checks%s\n", name, checks - checks_before, failures == failures_before ? "" : ", FAILED");
+    printf("%-28s %5u checks%s\n", name, checks - checks_before, failures == failures_before ? "" : ", FAILED");
     checks_before = checks;
     failures_before = failures;
     functions++;
@@ -109,42 +120,53 @@ static int holds(const union memory *m, const void *expected, size_t count)
     return 1;
 }
 
-/* Null for `in_first` or `in_out`: nothing is written there. */
-static void expect_at(const struct function *f, const struct arguments *a, const size_t *length, uint32_t number, const void *in_first,
-                      const void *in_out)
+static void expect_at(const struct function *f, const struct arguments *a, const size_t *length, uint32_t number, const struct written *w)
 {
     uint32_t answered;
 
     memset(&first, FILL, sizeof first);
+    memset(&second, FILL, sizeof second);
+    memset(&third, FILL, sizeof third);
     memset(&out, FILL, sizeof out);
     answered = f->call(a, length);
     check(f->name, "the number", answered == number);
-    check(f->name, "the first array", holds(&first, in_first, f->needed[FIRST] * f->element[FIRST]));
-    check(f->name, "out", holds(&out, in_out, f->needed[OUT] * f->element[OUT]));
+    check(f->name, "the first array", holds(&first, w->first, f->needed[FIRST] * f->element[FIRST]));
+    if (f->needed[SECOND] != 0)
+        check(f->name, "the second array", holds(&second, w->second, f->needed[SECOND] * f->element[SECOND]));
+    if (f->needed[THIRD] != 0)
+        check(f->name, "the third array", holds(&third, w->third, f->needed[THIRD] * f->element[THIRD]));
+    check(f->name, "out", holds(&out, w->out, f->needed[OUT] * f->element[OUT]));
 }
 
 /* ---- one question: with arrays as long as asked, longer, and each of them shorter ---- */
 
-static void expect(const struct function *f, const struct arguments *a, uint32_t number, const void *in_first, const void *in_out)
+static void expect_written(const struct function *f, const struct arguments *a, uint32_t number, const struct written *w)
 {
+    static const struct written nothing = {NULL, NULL, NULL, NULL};
     size_t length[ARRAYS];
     int i;
 
-    for (i = 0; i < ARRAYS; i++)
-        length[i] = f->needed[i];
-    expect_at(f, a, length, number, in_first, in_out);
+    expect_at(f, a, f->needed, number, w);
     for (i = 0; i < ARRAYS; i++)
         length[i] = f->needed[i] + SPARE;
-    expect_at(f, a, length, number, in_first, in_out);
+    expect_at(f, a, length, number, w);
     for (i = 0; i < ARRAYS; i++) {
         if (f->needed[i] == 0)
             continue;
         length[i] = f->needed[i] - 1;
-        expect_at(f, a, length, FOLGRIST_SHORT_SLICE, NULL, NULL);
+        expect_at(f, a, length, FOLGRIST_SHORT_SLICE, &nothing);
         length[i] = 0;
-        expect_at(f, a, length, FOLGRIST_SHORT_SLICE, NULL, NULL);
+        expect_at(f, a, length, FOLGRIST_SHORT_SLICE, &nothing);
         length[i] = f->needed[i] + SPARE;
     }
+}
+
+/* Of a function that writes more than one array before `out`: the same in each of them. */
+static void expect(const struct function *f, const struct arguments *a, uint32_t number, const void *in_first, const void *in_out)
+{
+    const struct written w = {in_first, in_first, in_first, in_out};
+
+    expect_written(f, a, number, &w);
 }
 
 /* ---- headers ---- */
@@ -445,7 +467,7 @@ static void check_allocate_bits(void)
 /* ---- the side information ---- */
 
 /* No steps; behind the record what no function may read. */
-static void read_idle_record(void)
+static void record_idle(void)
 {
     memset(&record, 0, sizeof record);
     memset(record.steps + 64, 0xFF, SPARE * sizeof record.steps[0]);
@@ -453,7 +475,7 @@ static void read_idle_record(void)
     memset(record.index + 192, 0xFF, SPARE);
 }
 
-static void read_slot(size_t slot, uint32_t steps, uint8_t scfsi, uint8_t a, uint8_t b, uint8_t c)
+static void record_slot(size_t slot, uint32_t steps, uint8_t scfsi, uint8_t a, uint8_t b, uint8_t c)
 {
     record.steps[slot] = steps;
     record.scfsi[slot] = scfsi;
@@ -484,18 +506,18 @@ static void expect_records_written(void)
     static const uint8_t in_joint[174] = {0, 0, 0, 0, 0, 0, 0, 0, 0, 0, 0, 0x01, 0, 0, 0, 0, 0, 0x06, 0x0A, 0x30, 0xE4, 0x12};
     struct arguments a = mono();
 
-    read_idle_record();
+    record_idle();
     expect(&write_side_info, &a, FOLGRIST_ACCEPTED, none, &idle);
-    read_slot(0, 15, FOLGRIST_SHARE_01_THEN_2, 3, 3, 62);
-    read_slot(2, 127, FOLGRIST_SHARE_ALL, 21, 21, 21);
-    read_slot(7, 0, FOLGRIST_SHARE_0_THEN_12, 255, 63, 63);
-    read_slot(8, 4, FOLGRIST_SHARE_ALL, 255, 255, 255);
-    read_slot(32, 15, FOLGRIST_SHARE_ALL, 1, 1, 1);
+    record_slot(0, 15, FOLGRIST_SHARE_01_THEN_2, 3, 3, 62);
+    record_slot(2, 127, FOLGRIST_SHARE_ALL, 21, 21, 21);
+    record_slot(7, 0, FOLGRIST_SHARE_0_THEN_12, 255, 63, 63);
+    record_slot(8, 4, FOLGRIST_SHARE_ALL, 255, 255, 255);
+    record_slot(32, 15, FOLGRIST_SHARE_ALL, 1, 1, 1);
     expect(&write_side_info, &a, FOLGRIST_ACCEPTED, in_mono, &two_slots);
     a = joint();
-    read_idle_record();
-    read_slot(12, 5, FOLGRIST_SHARE_0_THEN_12, 5, 6, 6);
-    read_slot(44, 5, FOLGRIST_THREE_PER_GRANULE, 7, 8, 9);
+    record_idle();
+    record_slot(12, 5, FOLGRIST_SHARE_0_THEN_12, 5, 6, 6);
+    record_slot(44, 5, FOLGRIST_THREE_PER_GRANULE, 7, 8, 9);
     expect(&write_side_info, &a, FOLGRIST_ACCEPTED, in_joint, &shared);
 }
 
@@ -512,19 +534,19 @@ static void expect_records_refused(void)
 {
     const struct arguments a = joint(), b = mono();
 
-    read_idle_record();
+    record_idle();
     record.steps[12] = 5;
     expect_record_refused(&a, FOLGRIST_SHARED_STEPS_DIFFER);
     record.steps[12] = 4;
     expect_record_refused(&a, FOLGRIST_SHARED_STEPS_DIFFER);
     record.steps[11 + 32] = 4;
     expect_record_refused(&a, FOLGRIST_STEPS_NOT_IN_ROW);
-    read_idle_record();
+    record_idle();
     record.steps[12] = record.steps[44] = 4;
     record.steps[13] = 5;
     expect_record_refused(&a, FOLGRIST_STEPS_NOT_IN_ROW);
-    read_idle_record();
-    read_slot(2, 127, FOLGRIST_SHARE_ALL, 21, 63, 21);
+    record_idle();
+    record_slot(2, 127, FOLGRIST_SHARE_ALL, 21, 63, 21);
     expect_record_refused(&b, FOLGRIST_INDEX_NOT_TABLED);
     record.steps[7] = 7;
     expect_record_refused(&b, FOLGRIST_STEPS_NOT_IN_ROW);
@@ -539,14 +561,189 @@ static void check_write_side_info(void)
     expect_records_written();
     expect_records_refused();
     for (slot = 0; slot < 64; slot += 21) {
-        read_idle_record();
+        record_idle();
         record.scfsi[slot] = 4;
         record.steps[0] = 4;
         expect(&write_side_info, &a, FOLGRIST_BAD_ARGUMENT, NULL, NULL);
     }
-    read_idle_record();
+    record_idle();
     expect_bad_headers(&write_side_info);
     done(write_side_info.name);
+}
+
+static uint32_t call_read_side_info(const struct arguments *a, const size_t *length)
+{
+    return folgrist_read_side_info(HEADER(a), source.bytes, source.count, first.words, length[FIRST], second.bytes, length[SECOND],
+                                   third.bytes, length[THIRD], out.words, length[OUT]);
+}
+
+static const struct function read_side_info = {
+    "read_side_info", {0, 64, 1, 0, 0, 64, 192}, {0, sizeof(uint32_t), sizeof(uint32_t), 0, 0, 1, 1}, call_read_side_info};
+
+/* The bytes are read, with ones behind them; the record is expected, an idle one beside a refusal. */
+static void expect_read(const struct arguments *a, const uint8_t *bytes, size_t count, uint32_t number, uint32_t bits)
+{
+    const struct written w = {record.steps, record.scfsi, record.index, &bits};
+
+    memset(source.bytes, 0xFF, sizeof source.bytes);
+    memcpy(source.bytes, bytes, count);
+    source.count = count;
+    expect_written(&read_side_info, a, number, &w);
+}
+
+/* 26 bits of allocation, 0001 and zeros, or zeros alone; scfsi 10, 01 or 00; indices 5; 5 and 62 or 63; and 1. Of 9 and 10 that one is
+ * answered whose field comes first. */
+static void expect_mono_read(void)
+{
+    static const uint8_t idle[] = {0, 0, 0, 0};
+    static const uint8_t one[] = {0x10, 0, 0, 0x21, 0x40}, two[] = {0x10, 0, 0, 0x11, 0x7E}, three[] = {0x10, 0, 0, 0x01, 0x7E, 0x04};
+    static const uint8_t two_reserved[] = {0x10, 0, 0, 0x11, 0x7F}, three_reserved[] = {0x10, 0, 0, 0x01, 0x7F};
+    const struct arguments a = mono();
+
+    record_idle();
+    expect_read(&a, idle, 0, FOLGRIST_SIDE_INFO_CUT, 0);
+    expect_read(&a, idle, 3, FOLGRIST_SIDE_INFO_CUT, 0);
+    expect_read(&a, idle, 4, FOLGRIST_ACCEPTED, 26);
+    expect_read(&a, one, 4, FOLGRIST_SIDE_INFO_CUT, 0);
+    expect_read(&a, three, 5, FOLGRIST_SIDE_INFO_CUT, 0);
+    expect_read(&a, two_reserved, 5, FOLGRIST_RESERVED_INDEX, 0);
+    expect_read(&a, three_reserved, 5, FOLGRIST_RESERVED_INDEX, 0);
+    record_slot(0, 3, FOLGRIST_SHARE_ALL, 5, 5, 5);
+    expect_read(&a, one, 5, FOLGRIST_ACCEPTED, 34);
+    record_slot(0, 3, FOLGRIST_SHARE_01_THEN_2, 5, 5, 62);
+    expect_read(&a, two, 5, FOLGRIST_ACCEPTED, 40);
+    record_slot(0, 3, FOLGRIST_THREE_PER_GRANULE, 5, 62, 1);
+    expect_read(&a, three, 6, FOLGRIST_ACCEPTED, 46);
+}
+
+/* 48000 Hz, joint stereo with bound 4, 64000 bit/s: 40 bits of allocation, of which 28 to 30 are 010; scfsi 10 11; indices 7 and 1, 2. */
+static void expect_joint_read(void)
+{
+    static const uint8_t bytes[] = {0, 0, 0, 0x04, 0, 0xB1, 0xC1, 0x08};
+    struct arguments a = mono();
+
+    a.bit_rate = 64000;
+    a.mode = FOLGRIST_JOINT_STEREO;
+    record_idle();
+    expect_read(&a, bytes, 7, FOLGRIST_SIDE_INFO_CUT, 0);
+    record_slot(4, 5, FOLGRIST_SHARE_ALL, 7, 7, 7);
+    record_slot(36, 5, FOLGRIST_SHARE_0_THEN_12, 1, 2, 2);
+    expect_read(&a, bytes, 8, FOLGRIST_ACCEPTED, 62);
+}
+
+/* The record as bytes; the number of their bits. */
+static uint32_t write_record(const struct arguments *a, uint8_t *bytes)
+{
+    check(read_side_info.name, "what is written", write_side_info.call(a, write_side_info.needed) == FOLGRIST_ACCEPTED);
+    memcpy(bytes, first.bytes, 174);
+    return out.words[0];
+}
+
+/* What is written of the record is read back: from bytes that end with it, with zeros or ones behind its bits, and from more. From fewer it
+ * is cut, though the others still lie behind them. */
+static void expect_read_back(const struct arguments *a)
+{
+    static const uint32_t zeros[64] = {0};
+    static const struct written nothing = {zeros, zeros, zeros, zeros};
+    uint8_t bytes[sizeof source.bytes];
+    const uint32_t bits = write_record(a, bytes);
+    const size_t count = (bits + 7) / 8;
+
+    expect_read(a, bytes, count, FOLGRIST_ACCEPTED, bits);
+    if (bits % 8 != 0)
+        bytes[count - 1] |= (uint8_t)(0xFF >> bits % 8);
+    expect_read(a, bytes, count, FOLGRIST_ACCEPTED, bits);
+    memset(bytes + count, 0xFF, sizeof bytes - count);
+    expect_read(a, bytes, sizeof bytes, FOLGRIST_ACCEPTED, bits);
+    for (source.count = 0; source.count < count; source.count++)
+        expect_at(&read_side_info, a, read_side_info.needed, FOLGRIST_SIDE_INFO_CUT, &nothing);
+}
+
+/* A slot whose indices agree with its scfsi. */
+static void record_agreeing(size_t slot, uint32_t steps, uint8_t scfsi)
+{
+    /* by scfsi: the granule whose index each granule has */
+    static const uint8_t granules[4][3] = {{0, 1, 2}, {0, 0, 2}, {0, 0, 0}, {0, 1, 1}};
+    uint8_t index[3];
+    size_t granule;
+
+    for (granule = 0; granule < 3; granule++)
+        index[granule] = (uint8_t)((5 * slot + 20 * granules[scfsi][granule]) % 63);
+    record_slot(slot, steps, scfsi, index[0], index[1], index[2]);
+}
+
+/* Each field has the place that its subband, its channel and `turn` name, counted round its row; place 0 is idle. */
+static void record_varied(const struct arguments *a, uint32_t turn)
+{
+    uint32_t budget[8], limits[2], steps, channel, sb, place;
+    uint8_t table;
+
+    record_idle();
+    folgrist_fixed_bit_budget(HEADER(a), budget, COUNT(budget));
+    table = (uint8_t)budget[7];
+    for (channel = 0; channel < budget[6]; channel++)
+        for (sb = 0; sb < budget[4]; sb++) {
+            folgrist_table_limits(table, sb, limits, COUNT(limits));
+            place = (sb + turn + (sb < budget[5] ? channel : 0)) % (1u << limits[1]);
+            folgrist_nb_steps(table, sb, place, &steps, 1);
+            if (steps != 0)
+                record_agreeing(32 * channel + sb, steps, (uint8_t)((sb / 4 + channel + turn) % 4));
+        }
+}
+
+/* Records of four frames, and the longest there is. */
+static void expect_records_read_back(void)
+{
+    struct arguments asked[] = {stereo(), joint(), mono(), mono()};
+    uint8_t bytes[174];
+    uint32_t turn;
+    size_t i, sb;
+
+    asked[3].lsf = 1;
+    asked[3].sample_rate = 24000;
+    for (i = 0; i < COUNT(asked); i++)
+        for (turn = 0; turn < 4; turn++) {
+            record_varied(&asked[i], turn);
+            expect_read_back(&asked[i]);
+        }
+    record_idle();
+    for (sb = 0; sb < 30; sb++) {
+        record_agreeing(sb, 3, FOLGRIST_THREE_PER_GRANULE);
+        record_agreeing(32 + sb, 3, FOLGRIST_THREE_PER_GRANULE);
+    }
+    expect_read_back(&asked[0]);
+    check(read_side_info.name, "the longest record", write_record(&asked[0], bytes) == 1388);
+}
+
+/* What the record holds of a slot that is idle or that the frame does not carry is not sent. */
+static void expect_idle_slots_read(void)
+{
+    const struct arguments a = mono();
+    uint8_t bytes[174];
+    uint32_t bits;
+
+    record_idle();
+    record_slot(7, 0, FOLGRIST_SHARE_0_THEN_12, 255, 63, 63);
+    record_slot(8, 4, FOLGRIST_SHARE_ALL, 255, 255, 255);
+    record_slot(32, 15, FOLGRIST_SHARE_ALL, 1, 1, 1);
+    bits = write_record(&a, bytes);
+    record_idle();
+    expect_read(&a, bytes, sizeof bytes, FOLGRIST_ACCEPTED, bits);
+}
+
+static void check_read_side_info(void)
+{
+    expect_mono_read();
+    expect_joint_read();
+    expect_records_read_back();
+    expect_idle_slots_read();
+    /* the header's questions, without bytes and with enough of them */
+    memset(source.bytes, 0, sizeof source.bytes);
+    for (source.count = 0; source.count <= sizeof source.bytes; source.count += sizeof source.bytes) {
+        expect_refused_headers(&read_side_info);
+        expect_bad_headers(&read_side_info);
+    }
+    done(read_side_info.name);
 }
 
 /* ---- the allocation tables ---- */
@@ -849,6 +1046,7 @@ int main(void)
     check_demand_bits();
     check_allocate_bits();
     check_write_side_info();
+    check_read_side_info();
     check_table_limits();
     check_nb_steps();
     check_allocation_index();

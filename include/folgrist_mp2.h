@@ -1,5 +1,6 @@
 /*
- * Folgrist: the decisions of an MPEG Audio Layer II encoder (ISO/IEC 11172-3, ISO/IEC 13818-3), from subband samples to sample codes.
+ * Folgrist: the decisions of an MPEG Audio Layer II encoder (ISO/IEC 11172-3, ISO/IEC 13818-3), from subband samples to sample codes, and
+ * the side information of its frames, written and read.
  *
  * Link with libfolgrist_mp2.a (`rt staticlib folgrist_mp2`). The library keeps no state and uses no heap; it calls nothing but memcpy and
  * memset, and takes some 20 KB of stack. Calls from several threads do not disturb one another.
@@ -15,7 +16,7 @@
  *
  * Order. FOLGRIST_SHORT_SLICE is asked first, then FOLGRIST_BAD_ARGUMENT, then FOLGRIST_NOTHING_THERE; with these three nothing is written.
  * Then FOLGRIST_RATE_OFF_LADDER, and then the others by their numbers; but FOLGRIST_SHARED_STEPS_DIFFER and FOLGRIST_STEPS_NOT_IN_ROW are asked
- * together, field by field in the order of the bitstream.
+ * together, field by field in the order of the bitstream, and so are FOLGRIST_SIDE_INFO_CUT and FOLGRIST_RESERVED_INDEX.
  * With any other number everything is written: beside a number that is not 0 stand zeros, but for what the comment says.
  *
  * Header. Seven arguments, the same in each function that has them:
@@ -45,9 +46,9 @@ extern "C" {
 #endif
 
 /* The version of what is declared here; folgrist_version() has that of the archive. A new function, or a change of a signature or of an
- * answer, raises the minor number. 1.1: FOLGRIST_RATE_OFF_LADDER. 1.2: folgrist_write_side_info. */
+ * answer, raises the minor number. 1.1: FOLGRIST_RATE_OFF_LADDER. 1.2: folgrist_write_side_info. 1.3: folgrist_read_side_info. */
 #define FOLGRIST_VERSION_MAJOR 1
-#define FOLGRIST_VERSION_MINOR 2
+#define FOLGRIST_VERSION_MINOR 3
 #define FOLGRIST_VERSION_PATCH 0
 
 /* The numbers of answers. */
@@ -61,6 +62,8 @@ enum folgrist_answer {
     FOLGRIST_SHARED_STEPS_DIFFER = 6, /* an allocation field serves both channels, and their steps differ */
     FOLGRIST_STEPS_NOT_IN_ROW = 7,    /* the steps of a field are not in its subband's row */
     FOLGRIST_INDEX_NOT_TABLED = 8,    /* a scalefactor index above 62 where something is allocated */
+    FOLGRIST_SIDE_INFO_CUT = 9,       /* a field of the side information passes the end of the bytes */
+    FOLGRIST_RESERVED_INDEX = 10,     /* the bytes hold scalefactor index 63, which is reserved */
     FOLGRIST_BAD_ARGUMENT = 14,       /* a flag above 1, a mode or extension above 3, a table above 4, a scfsi above 3 */
     FOLGRIST_RATE_OFF_LADDER = 16,    /* the bit rate is neither 0 nor on the header's ladder */
     FOLGRIST_NOTHING_THERE = 97,      /* a place outside the row, or steps that the row does not have */
@@ -154,6 +157,18 @@ uint32_t folgrist_write_side_info(uint8_t lsf, uint32_t bit_rate, uint32_t sampl
                                   uint8_t mode, uint8_t mode_extension, const uint32_t *steps, size_t steps_len, const uint8_t *scfsi,
                                   size_t scfsi_len, const uint8_t *index, size_t index_len, uint8_t *bytes, size_t bytes_len, uint32_t *out,
                                   size_t out_len);
+
+/* The record of the side information that bytes start with. bytes, any number of elements, 0 too: from the first bit of the allocation on,
+ * which follows the header, or its CRC where protection_bit is 0; most significant bit first. Nothing behind the bits used is looked at, nor is it asked whether they
+ * fit the frame. steps and scfsi, 64 elements each by slot, and index, 192 elements, at 3 * slot + granule: the record, as above; granules
+ * that share an index each have it. An idle slot, one without allocation or outside the frame, reads as 0 steps, FOLGRIST_THREE_PER_GRANULE
+ * and indices 0. out, 1 element: the number of bits used, 1388 at most. What folgrist_write_side_info wrote comes back where the indices
+ * agree with their scfsi, idle slots hold these values and steps outside the frame are 0.
+ * Answers 0, 1, 2, 9, 10, 14, 16, 98. */
+uint32_t folgrist_read_side_info(uint8_t lsf, uint32_t bit_rate, uint32_t sample_rate, uint8_t padding, uint8_t protection_bit,
+                                 uint8_t mode, uint8_t mode_extension, const uint8_t *bytes, size_t bytes_len, uint32_t *steps,
+                                 size_t steps_len, uint8_t *scfsi, size_t scfsi_len, uint8_t *index, size_t index_len, uint32_t *out,
+                                 size_t out_len);
 
 /* ---- the allocation tables ---- */
 

@@ -2,8 +2,8 @@
 
 use questions::kind::{Asker, Kind, silence_halts, stop};
 use questions::{
-    allocation_kinds, budget_kinds, class_kinds, header_kinds, sample_kinds, scalefactor_kinds,
-    scfsi_kinds, side_info_kinds, table_kinds,
+    allocation_kinds, budget_kinds, class_kinds, header_kinds, read_kinds, sample_kinds,
+    scalefactor_kinds, scfsi_kinds, side_info_kinds, table_kinds,
 };
 use std::env;
 use std::io::{self, BufWriter, Write};
@@ -30,6 +30,7 @@ fn all_kinds() -> Vec<Kind> {
     kinds.extend(budget_kinds::KINDS);
     kinds.extend(allocation_kinds::KINDS);
     kinds.extend(side_info_kinds::KINDS);
+    kinds.extend(read_kinds::KINDS);
     kinds.sort_by_key(|kind| kind.number);
     kinds
 }

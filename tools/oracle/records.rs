@@ -108,7 +108,7 @@ pub fn reserve(record: &mut Record, slot: usize, random: &mut Random) {
     record.indices(slot)[granule] = reserved_index(random);
 }
 
-fn one_of<'a, T>(from: &'a [T], random: &mut Random) -> Option<&'a T> {
+pub fn one_of<'a, T>(from: &'a [T], random: &mut Random) -> Option<&'a T> {
     from.get(random.below(from.len().max(1) as u64) as usize)
 }
 

@@ -62,7 +62,7 @@ compare | selfcheck | bench)
         echo "run.sh: make it by 'rt staticlib folgrist_mp2', or name one by --archive PATH" >&2
         exit 2
     fi
-    # For the bench the same Rust once more, on a writer that packs as it goes.
+    # For the bench the same Rust once more, on a reader and a writer that are quick.
     packing=$out/libpacking.rlib
     build --crate-name packing --crate-type rlib "${core[@]}" "$tool/packing.rs"
     build --crate-name packed --crate-type rlib --cap-lints allow \

@@ -76,14 +76,17 @@ pub fn scfsi_of(number: u64) -> Scfsi {
     }
 }
 
-pub fn selection(indices: [u8; 3]) -> [u64; 9] {
-    let chosen = select_scfsi(indices);
-    let scfsi = match chosen.scfsi {
+pub fn code_of(scfsi: Scfsi) -> u64 {
+    match scfsi {
         Scfsi::ThreePerGranule => 0,
         Scfsi::Share01Then2 => 1,
         Scfsi::ShareAll => 2,
         Scfsi::Share0Then12 => 3,
-    };
+    }
+}
+
+pub fn selection(indices: [u8; 3]) -> [u64; 9] {
+    let chosen = select_scfsi(indices);
     [
         chosen.used[0].into(),
         chosen.used[1].into(),
@@ -91,7 +94,7 @@ pub fn selection(indices: [u8; 3]) -> [u64; 9] {
         chosen.pattern.write0.into(),
         chosen.pattern.write1.into(),
         chosen.pattern.write2.into(),
-        scfsi,
+        code_of(chosen.scfsi),
         chosen.classes.0.as_index().into(),
         chosen.classes.1.as_index().into(),
     ]

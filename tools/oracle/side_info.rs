@@ -64,7 +64,7 @@ pub fn fields_of(budget: &FixedBitBudget) -> Vec<Vec<usize>> {
 }
 
 /// The Rust's record, with the layout of the budget.
-fn data_of(budget: &FixedBitBudget, record: &Record) -> AudioData {
+pub fn data_of(budget: &FixedBitBudget, record: &Record) -> AudioData {
     AudioData {
         table: budget.table,
         sblimit: budget.sblimit,
@@ -124,16 +124,21 @@ pub fn pack(values: &[u64], width: usize) -> Vec<u64> {
 }
 
 /// The values that `pack` was given, for the length of the array.
-fn unpacked<const COUNT: usize>(numbers: &[u64], width: usize) -> [u64; COUNT] {
+pub fn unpacked<const COUNT: usize>(numbers: &[u64], width: usize) -> [u64; COUNT] {
     let each = 64 / width;
     std::array::from_fn(|at| numbers[at / each] >> (at % each * width) & ((1 << width) - 1))
 }
 
-/// H and the record, as a line has them.
-pub fn arguments(head: &Head, record: &Record) -> Vec<u64> {
+/// The record, as a line has it.
+pub fn packed(record: &Record) -> Vec<u64> {
     let codes = pack(&record.scfsi, CODE_BITS);
     let indices = pack(&record.index, BYTE_BITS);
-    [&head[..], &record.steps, &codes, &indices].concat()
+    [&record.steps[..], &codes, &indices].concat()
+}
+
+/// H and the record, as a line has them.
+pub fn arguments(head: &Head, record: &Record) -> Vec<u64> {
+    [&head[..], &packed(record)].concat()
 }
 
 /// The record behind H in a line.

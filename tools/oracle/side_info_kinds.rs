@@ -33,7 +33,7 @@ const HALTED: [u64; ANSWERS] = refused(2);
 
 const RANDOM_LINES: usize = 60_000;
 
-const STEREO_MODE: u64 = 0;
+pub const STEREO_MODE: u64 = 0;
 
 const fn refused(number: u32) -> [u64; ANSWERS] {
     let mut answers = [0; ANSWERS];
@@ -123,7 +123,7 @@ fn ask_layouts(asker: &mut Asker) {
 }
 
 /// A header of each table in one mode, in joint stereo with bound 4.
-fn of_each_table(mode: u64, random: &mut Random) -> Vec<(Head, FixedBitBudget)> {
+pub fn of_each_table(mode: u64, random: &mut Random) -> Vec<(Head, FixedBitBudget)> {
     let mut heads = layouts(random);
     heads.retain(|head| head[MODE] == mode && (mode != JOINT || head[EXTENSION] == 0));
     let with_budget = |head: Head| budget_of(&head).map(|budget| (head, budget));
@@ -133,17 +133,25 @@ fn of_each_table(mode: u64, random: &mut Random) -> Vec<(Head, FixedBitBudget)> 
 }
 
 /// In each table every scfsi in all slots, each field at its highest place.
-fn ask_codes(asker: &mut Asker) {
-    for (head, budget) in of_each_table(STEREO_MODE, &mut asker.random) {
+pub fn full_records(random: &mut Random) -> Vec<(Head, FixedBitBudget, Record)> {
+    let mut records = Vec::new();
+    for (head, budget) in of_each_table(STEREO_MODE, random) {
         for code in 0..4 {
-            let mut record = accepted(&budget, 4, &mut asker.random);
+            let mut record = accepted(&budget, 4, random);
             record.scfsi.fill(code);
             for slot in (0..SLOTS).filter(|&slot| is_carried(&budget, slot)) {
                 let row = row(budget.table, slot % SUBBANDS);
                 record.steps[slot] = row[row.len() - 1];
             }
-            asker.ask(true, &arguments(&head, &record));
+            records.push((head, budget, record));
         }
+    }
+    records
+}
+
+fn ask_codes(asker: &mut Asker) {
+    for (head, _, record) in full_records(&mut asker.random) {
+        asker.ask(true, &arguments(&head, &record));
     }
 }
 

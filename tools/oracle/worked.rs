@@ -1,5 +1,5 @@
-//! Headers whose budgets were worked out by hand, and records whose bits were, with what is
-//! expected.
+//! Headers whose budgets were worked out by hand, records whose bits were, and bytes whose records
+//! were, with what is expected.
 
 use crate::heads::Head;
 
@@ -190,5 +190,79 @@ pub const WRITTEN: [Worked; 12] = [
         "3 steps in subband 0, scfsi 10 and the indices 0 63 0: answer 8, though 63 is not sent",
         &[(0, 3)],
         &[(0, 2, [0, 63, 0])],
+    ),
+];
+
+/// What is read of a slice; 26 and 104 bits of allocation as above, at 44100 Hz 188.
+pub const READ: [(&str, Head, &[u8]); 17] = [
+    (
+        "44100 Hz, stereo, 192000 bit/s, the empty slice: answer 9",
+        STEREO,
+        &[],
+    ),
+    ("24 bytes 0: 188 bits, nothing has steps", STEREO, &[0; 24]),
+    ("23 bytes 0: answer 9", STEREO, &[0; 23]),
+    (
+        "48000 Hz, single, 32000 bit/s, 4 bytes 0: 26 bits, nothing has steps",
+        SMALL,
+        &[0; 4],
+    ),
+    ("3 bytes 0: answer 9", SMALL, &[0; 3]),
+    (
+        "3 steps in subband 0, scfsi 10, index 5: 34 bits, the indices 5 5 5",
+        SMALL,
+        &[16, 0, 0, 33, 64],
+    ),
+    (
+        "scfsi 11 and the indices 5 and 9: 40 bits, the indices 5 9 9",
+        SMALL,
+        &[16, 0, 0, 49, 73],
+    ),
+    (
+        "scfsi 01 and the same: 40 bits, the indices 5 5 9",
+        SMALL,
+        &[16, 0, 0, 17, 73],
+    ),
+    (
+        "scfsi 00 and the indices 5, 9 and 62: 46 bits, these indices",
+        SMALL,
+        &[16, 0, 0, 1, 73, 248],
+    ),
+    (
+        "scfsi 00, 5, 9 and 63: answer 10",
+        SMALL,
+        &[16, 0, 0, 1, 73, 252],
+    ),
+    (
+        "scfsi 00, 5, 9 and the end: answer 9",
+        SMALL,
+        &[16, 0, 0, 1, 73],
+    ),
+    (
+        "scfsi 00, 5, 63 and the end: answer 10, not 9",
+        SMALL,
+        &[16, 0, 0, 1, 127],
+    ),
+    (
+        "scfsi 00, 63, 0 and the end: answer 10, not 9",
+        SMALL,
+        &[16, 0, 0, 15, 192],
+    ),
+    ("scfsi 10 and 63: answer 10", SMALL, &[16, 0, 0, 47, 192]),
+    (
+        "scfsi 10 and four ones of an index: answer 9",
+        SMALL,
+        &[16, 0, 0, 47],
+    ),
+    (
+        "48000 Hz, joint, bound 4, 192000 bit/s, 5 steps in both channels of subband 4, scfsi 10, \
+         the indices 1 and 2: 120 bits",
+        JOINT,
+        &[0, 0, 0, 0, 32, 0, 0, 0, 0, 0, 0, 0, 0, 160, 66],
+    ),
+    (
+        "the same, its second index 63: answer 10",
+        JOINT,
+        &[0, 0, 0, 0, 32, 0, 0, 0, 0, 0, 0, 0, 0, 160, 127],
     ),
 ];

@@ -1,19 +1,18 @@
 -- Every question of the writer is answered yes of the steps that an allocation ends at.
-use mathlib.Core.Path.{_≡_, refl, sym, ap, ap₂, _∙_, subst}
+use mathlib.Core.Path.{_≡_, refl, sym, ap₂, _∙_}
 use mathlib.Core.Bool.{Bool, true, false, cond, _&&_}
-use mathlib.Core.List.{List, [], _∷_, _++_, append-nil, append-assoc, map, flatMap}
+use mathlib.Core.List.{List, [], _∷_}
 use mathlib.Core.Option.{Option, none, some, Option·map}
-use Prim.Native.Nat.{ℕ, zero, suc, _+_, _*_, _≤_, _<_, zero-le, suc-le-suc}
+use Prim.Native.Nat.{ℕ, zero, suc, _+_, _*_, _≤_, _<_}
 use native.Mathlib.Nat.{not-suc-le-zero, le-of-suc-le-suc}
 use native.Mathlib.Decide.{decLt}
 use native.Mathlib.Omega.{arith}
-use lib.Dec.{T, eqb, leb}
+use lib.Dec.{T, eqb}
 use lib.Ieee.{Float}
 use lib.ListN.{length, getD, List·getD-eq-default}
 use borrow.Author.Tests.{eq-eqb, le-leb}
 use Rattle.tables.specs.Search.{place, oneOf}
-use Rattle.header.specs.Questions.{Question, number}
-use Rattle.header.proofs.QuestionLaws.{said-yes}
+use Rattle.header.specs.Questions.{number}
 use Rattle.bitalloc.specs.Options.{isSome}
 use Rattle.bitalloc.specs.Tables.{rowOf, indexOf}
 use Rattle.layout.specs.declared.Layout.{Layout}
@@ -25,23 +24,9 @@ use Rattle.allocation_rounds.specs.Rounds.{placeIn}
 use Rattle.allocation_run.proofs.RuleLaws.{sound-row}
 use Rattle.allocation_worth.specs.Worth.{placesFrom, Worth}
 use Rattle.allocation_worth.proofs.WorthLaws.{one-of-head, one-of-tail}
-use Rattle.side_info.specs.SideInfo.{SideInfo, activeSlots, sameSteps, sharedAsked, rowAsked, fieldAsked, scalefactorAsked, recordAsked}
-
--- ---- lists of questions that are all answered yes
-
-all-pass : {A : Type 0} (asked : A → List (Question ℕ)) (d : A) (rest : List (Question ℕ)) (xs : List A)
-  → ((k : ℕ) → k < length xs → (more : List (Question ℕ)) → number (asked (getD xs k d) ++ more) ≡ number more)
-  → number (flatMap asked xs ++ rest) ≡ number rest
-unfolding flatMap
-all-pass asked d rest [] h = refl
-all-pass asked d rest (x ∷ xs) h =
-    ap number (append-assoc (asked x) (flatMap asked xs) rest)
-    ∙ h 0 (suc-le-suc zero-le) (flatMap asked xs ++ rest)
-    ∙ all-pass asked d rest xs (λ k l. h (suc k) (suc-le-suc l))
-
-all-yes : {A : Type 0} (asked : A → Question ℕ) → ((x : A) → asked x .yes ≡ true) → (xs : List A) → number (map asked xs) ≡ 0
-all-yes asked h [] = refl
-all-yes asked h (x ∷ xs) = said-yes 0 (asked x) (map asked xs) (h x) ∙ all-yes asked h xs
+use Rattle.side_info.specs.SideInfo.{SideInfo, activeSlots, sameSteps, scalefactorAsked, recordAsked}
+use Rattle.side_info.proofs.ListLaws.{each-at}
+use Rattle.side_info.proofs.AskedLaws.{FieldYes, record-passes}
 
 -- ---- a number that a list has is found
 
@@ -76,22 +61,23 @@ all-same steps x (ch ∷ chs) h =
     (all-same steps x chs (λ c t. h c (one-of-tail ch c chs t)))
 
 module _ (l : Layout) (smr : List (List Float)) (costs : List ℕ) (offered left : ℕ) (r : SideInfo) (w : Worth l smr costs offered (r .steps) left) where
-  field-passes : (f : ℕ) → f < length (fieldsOf l) → (more : List (Question ℕ)) → number (fieldAsked l r (fieldIn (fieldsOf l) f) ++ more) ≡ number more
+  field-yes : (f : ℕ) → f < length (fieldsOf l) → FieldYes l r (fieldIn (fieldsOf l) f)
   unfolding indexOf
-  field-passes f h more =
+  field-yes f h =
       let x = fieldIn (fieldsOf l) f in
       let t = l .table in
       let row = rowOf t (x .subband) in
       let sound = sound-row t (x .subband) (carried l f h) in
-      said-yes 0 (sharedAsked r x) (rowAsked l r x ∷ more) (all-same (r .steps) x (served x) (λ ch c. w .both f ch h c))
-      ∙ said-yes 0 (rowAsked l r x) more
-        (row-has (fieldSteps (r .steps) x) row (placeIn (placesFrom l (r .steps)) f) (let m = sound .some in omega arith) (sound .zeroth) (w .inRow f h))
+      record {
+        shared = all-same (r .steps) x (served x) (λ ch c. w .both f ch h c);
+        row = row-has (fieldSteps (r .steps) x) row (placeIn (placesFrom l (r .steps)) f) (let m = sound .some in omega arith) (sound .zeroth) (w .inRow f h)
+      }
 
   pub passes : ((i : ℕ) → getD (r .scalefactors) i 0 ≤ 62) → number (recordAsked l r) ≡ 0
-  unfolding recordAsked
-  passes small =
-      all-pass (fieldAsked l r) (own 0 0) (map (scalefactorAsked r) (activeSlots l (r .steps))) (fieldsOf l) field-passes
-      ∙ all-yes (scalefactorAsked r) tabled-slot (activeSlots l (r .steps))
+  passes small = record-passes l r (record {
+    fields = each-at (FieldYes l r) (own 0 0) (fieldsOf l) field-yes;
+    slots = each-at (λ slot. scalefactorAsked r slot .yes ≡ true) 0 (activeSlots l (r .steps)) (λ k h. tabled-slot (getD (activeSlots l (r .steps)) k 0))
+  })
     where
       tabled-slot : (slot : ℕ) → scalefactorAsked r slot .yes ≡ true
       tabled-slot slot = ap₂ _&&_ (ap₂ _&&_ (le-leb _ 62 (small (3 * slot))) (le-leb _ 62 (small (3 * slot + 1)))) (le-leb _ 62 (small (3 * slot + 2)))

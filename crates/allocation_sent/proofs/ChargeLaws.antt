@@ -1,9 +1,9 @@
 -- What the fields' slots and samples come to is at most what the rounds charged, whatever the first steps cost, where each covers what the
 -- field's slots send.
 use mathlib.Core.Path.{_≡_, refl, sym, ap, ap₂, _∙_, subst}
-use mathlib.Core.Bool.{Bool, true, false, cond, _||_}
-use mathlib.Core.List.{List, [], _∷_, _++_, map}
-use Prim.Native.Nat.{ℕ, zero, suc, _+_, _*_, _≤_, _<_, zero-le}
+use mathlib.Core.Bool.{Bool, true, false, cond}
+use mathlib.Core.List.{List, [], _∷_, map}
+use Prim.Native.Nat.{ℕ, zero, suc, _+_, _*_, _≤_, _<_}
 use native.Mathlib.Nat.{le-refl, zero-add}
 use native.Mathlib.Omega.{arith}
 use lib.Dec.{T, eqb, lit≤}
@@ -13,15 +13,14 @@ use lib.Seq.{take-all}
 use borrow.Author.Tests.{eq-eqb, eqb-true}
 use Rattle.tables.specs.Search.{oneOf}
 use Rattle.quantization.specs.Classes.{sampleBits}
-use Rattle.bitalloc.specs.Tables.{rowOf}
 use Rattle.layout.specs.declared.Layout.{Layout}
 use Rattle.layout.specs.declared.AllocationField.{AllocationField}
 use Rattle.layout.specs.Slots.{slotOf}
 use Rattle.layout.specs.Layout.{served, fieldsOf, fieldIn, fieldSteps, slotsIn, slotsOf, sumOver}
 use Rattle.layout.proofs.SumLaws.{sum-append, one-more}
-use Rattle.allocation_rounds.specs.Rounds.{Rules, placeIn}
+use Rattle.allocation_rounds.specs.Rounds.{placeIn}
 use Rattle.allocation_rounds.specs.Promises.{charged}
-use Rattle.allocation_run.specs.Entries.{Entry, charge, chargeAt, entryIn, rulesOf, entriesOf}
+use Rattle.allocation_run.specs.Entries.{Entry, charge, chargeAt, rulesOf, entriesOf}
 use Rattle.allocation_run.proofs.LaidLaws.{entries-count, entry-at}
 use Rattle.allocation_worth.specs.Worth.{placesFrom, Worth}
 use Rattle.allocation_worth.proofs.WorthLaws.{one-of-head, one-of-tail}

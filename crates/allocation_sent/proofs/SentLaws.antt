@@ -1,9 +1,7 @@
 -- What an allocation accepts can be sent.
-use mathlib.Core.Path.{_≡_, refl, sym, ap, ap₂, _∙_, subst}
-use mathlib.Core.Bool.{Bool, cond}
-use mathlib.Core.List.{List, []}
-use mathlib.Core.Option.{some}
-use Prim.Native.Nat.{ℕ, _+_, _-_, _*_, _≤_, _<_}
+use mathlib.Core.Path.{_≡_, sym, ap, _∙_, subst}
+use mathlib.Core.List.{List}
+use Prim.Native.Nat.{ℕ, _+_, _-_, _≤_, _<_}
 use native.Mathlib.Omega.{arith}
 use lib.Ieee.{Float}
 use lib.ListN.{length, getD}
@@ -13,22 +11,21 @@ use Rattle.header.specs.Questions.{number}
 use Rattle.header.proofs.QuestionLaws.{behind, all-yes}
 use Rattle.layout.specs.declared.Layout.{Layout}
 use Rattle.layout.specs.Layout.{own, layoutOf, fieldsOf, fieldIn}
-use Rattle.audio_data.specs.declared.ScfsiSlot.{ScfsiSlot}
 use Rattle.encoder_bit_budget.specs.declared.Request.{Request}
 use Rattle.encoder_bit_budget.specs.declared.FixedBitBudget.{FixedBitBudget}
 use Rattle.encoder_bit_budget.specs.declared.Budget.the-variants.{Ok}
-use Rattle.encoder_bit_budget.specs.Budget.{headerAsked, cbOf, crcBits, allocationBits, budgetWith, budgetUnder, budgetIn, budgetOf, layoutIn, fixedIn, offeredIn, offeredOf, natural}
+use Rattle.encoder_bit_budget.specs.Budget.{headerAsked, cbOf, crcBits, allocationBits, budgetWith, budgetUnder, budgetIn, budgetOf, layoutIn, fixedIn, offeredOf, natural}
 use Rattle.encoder_bit_budget.proofs.BudgetLaws.{refusing-header, answer-is, accepted-is, table-is, layout-is}
 use Rattle.encoder_bit_budget.proofs.AvailableLaws.{natural-minus}
 use Rattle.encoder_bit_demand.specs.Demand.{firstStep}
 use Rattle.allocation_worth.specs.Worth.{Worth}
 use Rattle.encoder_bit_allocator.specs.declared.Allocation.{Allocation}
-use Rattle.encoder_bit_allocator.specs.Allocation.{worstCase, allocationAsked, layoutFor, AllocationIs}
+use Rattle.encoder_bit_allocator.specs.Allocation.{worstCase}
 use Rattle.encoder_bit_allocator.proofs.AnswerLaws.{asked-zero, number-is}
 use Rattle.side_info.specs.SideInfo.{SideInfo, sideInfo, headerLayout, orB2a, recordAsked}
 use Rattle.side_info_writer.specs.declared.WrittenSideInfo.{WrittenSideInfo}
 use Rattle.side_info_writer.specs.Written.{writerAsked, writtenOf, WrittenIs}
-use Rattle.allocation_sent.specs.Sent.{SentIn, CanBeSent}
+use Rattle.allocation_sent.specs.Sent.{CanBeSent}
 use Rattle.allocation_sent.proofs.AskedLaws.{passes}
 use Rattle.allocation_sent.proofs.ChargeLaws.{servedCount, worst-covers, sent-fits}
 

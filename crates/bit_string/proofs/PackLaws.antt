@@ -17,6 +17,11 @@ unfolding packed
 length-packed zero bs = refl
 length-packed (suc n) bs = ap suc (length-packed n (drop 8 bs))
 
+pub length-unpacked : (bytes : List ℕ) → length (unpacked bytes) ≡ 8 * length bytes
+unfolding unpacked
+length-unpacked [] = refl
+length-unpacked (b ∷ bytes) = length-append (bitsOf 8 b) (unpacked bytes) ∙ (let l = length-bits 8 b in let ih = length-unpacked bytes in omega arith)
+
 pub length-filled : (w : ℕ) (bs : List Bool) → length (filledTo w bs) ≡ w
 unfolding filledTo
 length-filled zero bs = refl

@@ -436,3 +436,12 @@ unfolding stepsAt indexOf
 steps-of-index t sb i n e =
     let g = at-place (λ m. eqb m n) (rowOf t sb) i e in
     g .1 ∙ ap some (eqb-true _ _ (g .2))
+
+-- a row's place fits the field
+pub index-small : (t : BitAllocTable) (sb n p : ℕ) → sb < sblimitOf t → indexOf t sb n ≡ some p → p < 2 ^ nbalOf t sb
+unfolding stepsAt
+index-small t sb n p h e = rw (← row-rule t sb h .places) (go (decLt p (length (rowOf t sb))))
+  where
+    go : Dec (p < length (rowOf t sb)) → p < length (rowOf t sb)
+    go (yes l) = l
+    go (no l) = absurd (Option·none-ne-some n (sym (past (rowOf t sb) p (omega arith)) ∙ steps-of-index t sb p n e))

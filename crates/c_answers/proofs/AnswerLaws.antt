@@ -190,3 +190,8 @@ module _ {A : Type 0} where
           let l = p .inside in
           let h = ltb-false i (length vs) q in
           put-all vs old new i h p ∙ sym (all-fit vs old (omega arith))
+
+-- arguments that mean something get the reply g of what is found, where that is the reply f to them
+pub replied : {X W A : Type 0} (m : Meaning X) (f : X → Reply A) (old : List A) (x : X) (r : ℕ) (new : List A) (g : W → Reply A) (w v : W) → m ≡ meant x
+  → w ≡ v → g v ≡ f x → Answers (g w) old r new → Answers (answered m f) old r new
+replied m f old x r new g w v e p q a = rw (e, ← q, ← p) a

@@ -146,6 +146,33 @@ fn write_side_info(h: Head) {
     );
     show::bytes(b"write_side_info", number, &bytes);
     show::words(b"write_side_info, out", number, &out);
+    read_side_info(h, &bytes);
+}
+
+// From what was written.
+fn read_side_info(h: Head, bytes: &[u8]) {
+    let mut steps = [9u32; 64];
+    let mut scfsi = [9u8; 64];
+    let mut indices = [9u8; 192];
+    let mut out = [9u32; 1];
+    let number = side_info::folgrist_read_side_info(
+        h.lsf,
+        h.bit_rate,
+        h.sample_rate,
+        h.padding,
+        h.protection_bit,
+        h.mode,
+        h.mode_extension,
+        bytes,
+        &mut steps,
+        &mut scfsi,
+        &mut indices,
+        &mut out,
+    );
+    show::words(b"read_side_info, steps", number, &steps);
+    show::bytes(b"read_side_info, scfsi", number, &scfsi);
+    show::bytes(b"read_side_info, indices", number, &indices);
+    show::words(b"read_side_info, out", number, &out);
 }
 
 // From 30 dB down by three quarters of one from slot to slot.

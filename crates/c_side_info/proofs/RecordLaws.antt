@@ -13,7 +13,7 @@ use Rattle.tables.proofs.Listed.{filled}
 use Rattle.header.specs.declared.FrameHeader.{FrameHeader}
 use Rattle.audio_data.specs.declared.ScfsiSlot.{ScfsiSlot}
 use Rattle.side_info.specs.SideInfo.{SideInfo, sideInfo}
-use Rattle.c_answers.specs.Answers.{Meaning, meant, Reply, answered, fitted, Answers}
+use Rattle.c_answers.specs.Answers.{fitted}
 use Rattle.c_answers.proofs.AnswerLaws.{both-long, three-long}
 use Rattle.c_side_info.specs.Arguments.{shortRecord, areCodes, coded, recordIn, Frame, frame, framed}
 use Rattle.c_side_info.specs.Parts.{ScfsiAre}
@@ -58,11 +58,6 @@ a-record o h steps scfsi index p e = rw (p, e)
 pub of-record : {W : Type 0} (f : SideInfo → W) (w : W) (steps steps′ : List ℕ) (scfsi scfsi′ : List ScfsiSlot) (index index′ : List ℕ)
   → w ≡ f (sideInfo steps scfsi index) → steps ≡ steps′ → scfsi ≡ scfsi′ → index ≡ index′ → w ≡ f (sideInfo steps′ scfsi′ index′)
 of-record f w steps steps′ scfsi scfsi′ index index′ e p q r = rw (← p, ← q, ← r) e
-
--- arguments that mean something get the reply g of what is found, where that is the reply f to them
-pub replied : {X W A : Type 0} (m : Meaning X) (f : X → Reply A) (old : List A) (x : X) (r : ℕ) (new : List A) (g : W → Reply A) (w v : W) → m ≡ meant x
-  → w ≡ v → g v ≡ f x → Answers (g w) old r new → Answers (answered m f) old r new
-replied m f old x r new g w v e p q a = rw (e, ← q, ← p) a
 
 -- ---- reading
 

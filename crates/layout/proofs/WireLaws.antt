@@ -105,6 +105,21 @@ module _ (l : Layout) where
       go true h = omega arith
       go false h = omega arith
 
+  -- they are slots, and each comes once
+  pub slot-small : (k : ℕ) → k < length (slotsOf l) → getD (slotsOf l) k 0 < 64
+  slot-small k h = rw (which k h) (go one (rw many at h) (sblimit-small (l .table)))
+    where
+      go : (one : Bool) → k < slotCount one (limitOf l) → limitOf l ≤ 30 → slotNumbered one k < 64
+      go true h m = omega arith
+      go false h m = omega arith
+
+  pub slots-differ : (i j : ℕ) → i < j → j < length (slotsOf l) → getD (slotsOf l) i 0 ≡ getD (slotsOf l) j 0 → ⊥
+  slots-differ i j m h e = go one m (rw many at h) (sblimit-small (l .table)) (sym (which i (omega arith)) ∙ e ∙ which j h)
+    where
+      go : (one : Bool) → i < j → j < slotCount one (limitOf l) → limitOf l ≤ 30 → slotNumbered one i ≡ slotNumbered one j → ⊥
+      go true m h few e = omega arith
+      go false m h few e = omega arith
+
   pub slots-are : (n : ℕ) → n ≡ slotCount one (limitOf l) → n ≤ 60 → SlotsAre l n
   slots-are n e h = record { whole = e ∙ sym many; few = h }
 

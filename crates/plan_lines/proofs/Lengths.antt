@@ -18,7 +18,7 @@ use Rattle.text_line.specs.Line.{aligned}
 use Rattle.text_line.specs.Number.{digitsOf, numberText}
 use Rattle.text_line.proofs.LineLaws.{column-length}
 use Rattle.text_line.proofs.NumberLaws.{few-digits}
-use Rattle.plan_lines.specs.Lines.{tableText, limitsText, frameLine, bitsLine, balanceText, demandLine}
+use Rattle.plan_lines.specs.Lines.{tableText, limitsText, frameLine, freeLine, bitsLine, balanceText, demandLine}
 use Rattle.plan_lines.specs.Refusal.{offLadderText, noTableText, tooSmallText, adviceText, sentences, said, reasonText, refusalLine}
 
 number : (n : ℕ) → length (numberText n) ≤ 20
@@ -38,6 +38,10 @@ pub frame-length : (b : FixedBitBudget) → length (frameLine b) ≤ 256
 unfolding frameLine limitsText
 frame-length b =
     simp length-append (omega (arith, in-column 6 (b .cb / 8), table (b .table), number (b .sblimit), number (b .bound)))
+
+pub free-length : (b : FixedBitBudget) → length (freeLine b) ≤ 256
+unfolding freeLine limitsText
+free-length b = simp length-append (omega (arith, table (b .table), number (b .sblimit), number (b .bound)))
 
 bits : (label : List ℕ) (n : ℕ) → length label ≤ 8 → length (bitsLine label n) ≤ 39
 unfolding bitsLine

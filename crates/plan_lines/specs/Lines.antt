@@ -26,6 +26,10 @@ unfoldable pub frameLine : FixedBitBudget → List ℕ
 frameLine b =
     text "frame   " ++ aligned 6 (numberText (b .cb / 8)) ++ text " bytes, table " ++ tableText (b .table) ++ limitsText (b .sblimit) (b .bound)
 
+-- in free format the header does not tell the frame's size
+unfoldable pub freeLine : FixedBitBudget → List ℕ
+freeLine b = text "frame   free format, table " ++ tableText (b .table) ++ limitsText (b .sblimit) (b .bound)
+
 -- a number of bits behind a label of eight characters
 unfoldable pub bitsLine : List ℕ → ℕ → List ℕ
 bitsLine label n = label ++ aligned 6 (numberText n) ++ text " bits"

@@ -5,7 +5,7 @@ ghost use Prim.Native.Nat.{_≤_};
 ghost use lib.ListN.{length};
 ghost use Rattle.plan_text.specs.Quoted.{text};
 ghost use Rattle.text_line.specs.Line.{textOf, cut};
-ghost use Rattle.plan_lines.specs.Lines.{tableText, limitsText, frameLine, bitsLine, balanceText, demandLine};
+ghost use Rattle.plan_lines.specs.Lines.{tableText, limitsText, frameLine, freeLine, bitsLine, balanceText, demandLine};
 use bitalloc::BitAllocTable;
 use encoder_bit_budget::FixedBitBudget;
 use text_line::Line;
@@ -15,6 +15,15 @@ pub fn frame_line(b: FixedBitBudget) -> Line
 {
     let bytes = (b.cb / 8) as u64;
     let line = Line::new().text(b"frame   ").number_in(6, bytes).text(b" bytes, table ");
+    let table = b.table;
+    limits(table_name(line, table), b.sblimit, b.bound)
+}
+
+// In free format, where the header does not tell the frame's size.
+pub fn free_line(b: FixedBitBudget) -> Line
+    ensures { λ r. ⌜ textOf r ≡ freeLine b ⌝ }
+{
+    let line = Line::new().text(b"frame   free format, table ");
     let table = b.table;
     limits(table_name(line, table), b.sblimit, b.bound)
 }
@@ -71,6 +80,13 @@ pub fn left_line(n: u64) -> Line
     ensures { λ r. ⌜ textOf r ≡ bitsLine (text "left    ") n ⌝ }
 {
     bits_line(b"left    ", n)
+}
+
+// The bits that a frame's side information takes.
+pub fn used_line(n: u64) -> Line
+    ensures { λ r. ⌜ textOf r ≡ bitsLine (text "used    ") n ⌝ }
+{
+    bits_line(b"used    ", n)
 }
 
 pub fn demand_line(demand: u64, offered: u64) -> Line

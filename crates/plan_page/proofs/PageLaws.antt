@@ -16,16 +16,13 @@ use Rattle.header.specs.declared.FrameHeader.{FrameHeader}
 use Rattle.bitalloc.specs.Options.{isSome}
 use Rattle.encoder_bit_budget.specs.declared.FixedBitBudget.{FixedBitBudget}
 use Rattle.encoder_bit_budget.specs.declared.Request.{Request}
-use Rattle.encoder_bit_budget.specs.declared.BitAllocError.{BitAllocError}
-use Rattle.encoder_bit_budget.specs.declared.Budget.the-variants.{Refused}
-use Rattle.encoder_bit_budget.specs.Budget.{BudgetAnswer, plain, headerAsked, budgetIn, budgetOf, noBudget, layoutIn, offeredIn, offeredOf, natural}
+use Rattle.encoder_bit_budget.specs.Budget.{plain, headerAsked, budgetOf, layoutIn, offeredIn, offeredOf, natural}
 use Rattle.encoder_bit_demand.specs.Demand.{demandOf}
 use Rattle.encoder_bit_allocator.specs.declared.Allocation.{Allocation}
 use Rattle.encoder_bit_allocator.specs.Allocation.{allocationAsked, allocationOf}
 use Rattle.plan_page.specs.Rows.{subbandLine}
 use Rattle.plan_lines.specs.Refusal.{sentences, refusalLine}
 use Rattle.plan_page.specs.Page.{headOf, footOf, acceptedPage, pageBy, pageOf}
-use Rattle.plan_page.specs.Held.{BudgetHeld}
 
 -- ---- the two pages
 
@@ -117,12 +114,6 @@ module _ (b : FixedBitBudget) (offered demand : ℕ) (steps : List ℕ) (left : 
   in-foot n h l =
       let there : n ≡ length (head ++ body) + (n - 6 - b .sblimit) = omega (arith, until-foot) in
       ap (λ (k : ℕ). getD (head ++ body ++ foot) k []) there ∙ getD-append-add (head ++ body) foot (n - 6 - b .sblimit) []
-
--- ---- the budget
-
--- a refused header has the filler
-pub none-held : (q : Request) (e : BitAllocError) (b : FixedBitBudget) → budgetIn (Refused e) ≡ budgetOf q → b ≡ noBudget → BudgetHeld q b
-none-held q e b p z = record { whole = z ∙ ap (λ (a : BudgetAnswer). a .budget) p; few = rw z (omega arith) }
 
 -- ---- the lines that are empty, and those behind the last
 

@@ -1,4 +1,3 @@
 pub mod Rows
 pub mod Charged
 pub mod Page
-pub mod Held

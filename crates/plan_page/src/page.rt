@@ -3,13 +3,11 @@ ghost use mathlib.Core.Path.{_≡_};
 ghost use mathlib.Core.List.{[]};
 ghost use Prim.Native.Nat.{_+_, _-_, _≤_};
 ghost use lib.ListN.{length, getD};
-ghost use Rattle.encoder_bit_budget.specs.Budget.{noBudget, offeredIn, natural};
+ghost use Rattle.encoder_bit_budget.specs.Budget.{offeredIn, natural};
 ghost use Rattle.text_line.specs.Line.{textOf};
 ghost use Rattle.plan_page.specs.Page.{headOf, footOf, acceptedPage, pageOf};
-ghost use Rattle.plan_page.specs.Held.{BudgetHeld};
 use crate::rows;
-use bitalloc::BitAllocTable;
-use encoder_bit_budget::{Budget, FixedBitBudget, Request};
+use encoder_bit_budget::{FixedBitBudget, Request};
 use header::FrameHeader;
 use text_line::Line;
 
@@ -19,7 +17,7 @@ pub fn page_length(header: FrameHeader, banc: u32, smr_db: [[f64; 32]; 2]) -> us
 {
     let a = encoder_bit_allocator::allocate_bits(header, smr_db, banc);
     if a.number == 0 {
-        let b = budget_held(Request { header, banc });
+        let b = plan_lines::budget_held(Request { header, banc });
         9 + b.sblimit
     } else {
         1
@@ -32,7 +30,7 @@ pub fn page_line(header: FrameHeader, banc: u32, smr_db: [[f64; 32]; 2], n: usiz
 {
     let a = encoder_bit_allocator::allocate_bits(header, smr_db, banc);
     if a.number == 0 {
-        let b = budget_held(Request { header, banc });
+        let b = plan_lines::budget_held(Request { header, banc });
         let demand = encoder_bit_demand::demand_bits(header, smr_db);
         let audio = a.audio;
         let steps = audio.nb_steps;
@@ -97,33 +95,6 @@ fn foot_line(offered: u64, left: u64, n: usize) -> Line
         plan_lines::left_line(left)
     } else {
         Line::new()
-    }
-}
-
-// The budget of a request, or the filler where it has none.
-fn budget_held(request: Request) -> FixedBitBudget
-    ensures { λ r. ⌜ BudgetHeld request r ⌝ }
-{
-    let budget = request.budget();
-    match budget {
-        Budget::Ok(b) => b,
-        Budget::Refused(_) => no_budget(),
-    }
-}
-
-// What stands beside a refusal.
-fn no_budget() -> FixedBitBudget
-    ensures { λ r. ⌜ r ≡ noBudget ⌝ }
-{
-    FixedBitBudget {
-        cb: 0,
-        bhdr: 0,
-        bcrc: 0,
-        bbal: 0,
-        sblimit: 0,
-        bound: 0,
-        channels: 0,
-        table: BitAllocTable::B2a,
     }
 }
 

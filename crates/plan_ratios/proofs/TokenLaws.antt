@@ -11,7 +11,8 @@ use lib.Seq.{drop-cons, drop-drop}
 use borrow.Author.Tests.{eqb-true, eq-eqb, ne-eqb}
 use Rattle.plan_text.proofs.ByteLaws.{found-most}
 use Rattle.plan_text.specs.Bytes.{reach, before, onto, pieces}
-use Rattle.plan_ratios.specs.Tokens.{endsLine, isHash, isBlank, filled, lineTokens, Token, onLine, numbered, tokensFrom}
+use Rattle.plan_text.specs.Lines.{endsLine, isHash, isBlank}
+use Rattle.plan_ratios.specs.Tokens.{filled, lineTokens, Token, onLine, numbered, tokensFrom}
 use Rattle.plan_ratios.specs.Walk.{isEnd, gap, GapEndIs}
 
 neither : (a b : Bool) → a || b ≡ false → (a ≡ false) × (b ≡ false)

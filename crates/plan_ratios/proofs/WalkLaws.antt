@@ -11,7 +11,8 @@ use Rattle.plan_text.proofs.ByteLaws.{found-most}
 use Rattle.plan_ratios.specs.declared.Gap.{Gap}
 use Rattle.plan_ratios.specs.declared.RatiosAnswer.the-variants.{Accepted, CannotRead, TooMany, TooFew}
 use Rattle.plan_ratios.specs.Ratio.{ratioOf}
-use Rattle.plan_ratios.specs.Tokens.{endsLine, onLine, tokensFrom}
+use Rattle.plan_text.specs.Lines.{endsLine}
+use Rattle.plan_ratios.specs.Tokens.{onLine, tokensFrom}
 use Rattle.plan_ratios.specs.Ratios.{wanted, empty, refused, accepted, answered, ratiosOf}
 use Rattle.plan_ratios.specs.Walk.{isEnd, Reached, Skipped}
 use Rattle.plan_ratios.proofs.TokenLaws.{token-at, token-less}

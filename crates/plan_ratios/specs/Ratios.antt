@@ -8,11 +8,12 @@ use lib.IntN.{pos}
 use lib.ListN.{length, replicate}
 use lib.Ieee.{Float, fin}
 use Rattle.plan_text.specs.Bytes.{pieces}
+use Rattle.plan_text.specs.Lines.{endsLine}
 use Rattle.plan_ratios.specs.declared.Ratios.{Ratios}
 use Rattle.plan_ratios.specs.declared.RatiosAnswer.{RatiosAnswer}
 use Rattle.plan_ratios.specs.declared.RatiosAnswer.the-variants.{Accepted, CannotRead, TooMany, TooFew}
 use Rattle.plan_ratios.specs.Ratio.{ratioOf}
-use Rattle.plan_ratios.specs.Tokens.{Token, endsLine, tokensFrom}
+use Rattle.plan_ratios.specs.Tokens.{Token, tokensFrom}
 
 -- as many ratios are wanted as there are slots, 64 at most
 abbrev pub wanted : ℕ → ℕ

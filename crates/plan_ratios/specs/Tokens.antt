@@ -1,23 +1,8 @@
--- The tokens of a text of ratios. A line ends with a line feed or with the text; a comment goes from # to the end of its line; spaces, tabs
--- and carriage returns separate tokens.
+-- The tokens of a text of ratios, by its lines: white space separates them, and a comment has none.
 use Prim.Native.Nat.{ℕ, suc}
-use Prim.Native.Char.{code}
-use mathlib.Core.Bool.{Bool, _||_}
 use mathlib.Core.List.{List, [], _∷_, _++_, map}
-use lib.Dec.{eqb}
 use Rattle.plan_text.specs.Bytes.{before, pieces}
-
--- the line feed
-abbrev pub endsLine : ℕ → Bool
-endsLine b = eqb b (code "\n")
-
--- what starts a comment
-abbrev pub isHash : ℕ → Bool
-isHash b = eqb b (code "#")
-
--- white space within a line
-abbrev pub isBlank : ℕ → Bool
-isBlank b = eqb b (code " ") || eqb b (code "\t") || eqb b (code "\r")
+use Rattle.plan_text.specs.Lines.{endsLine, isHash, isBlank}
 
 -- the pieces that are not empty
 abbrev pub filled : List (List ℕ) → List (List ℕ)

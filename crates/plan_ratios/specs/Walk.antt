@@ -6,8 +6,9 @@ use mathlib.Core.Bool.{Bool, false, cond, _||_}
 use mathlib.Core.List.{List, [], _∷_}
 use lib.ListN.{length, getD, drop}
 use Rattle.plan_text.specs.Bytes.{reach}
+use Rattle.plan_text.specs.Lines.{endsLine, isHash, isBlank}
 use Rattle.plan_ratios.specs.declared.Gap.{Gap}
-use Rattle.plan_ratios.specs.Tokens.{endsLine, isHash, isBlank, tokensFrom}
+use Rattle.plan_ratios.specs.Tokens.{tokensFrom}
 use Rattle.plan_ratios.specs.Ratios.{wanted}
 
 -- what ends a token

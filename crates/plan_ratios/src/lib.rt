@@ -7,7 +7,7 @@ ghost use Rattle.tables.specs.Decimal.{decimal};
 ghost use Rattle.plan_ratios.specs.Ratio.{few, pointed, unsigned, signed, wordValue, ratioOf, readOf};
 ghost use lib.ListN.{length, drop};
 ghost use Rattle.plan_text.specs.Bytes.{reach, pieces};
-ghost use Rattle.plan_ratios.specs.Tokens.{endsLine};
+ghost use Rattle.plan_text.specs.Lines.{endsLine};
 ghost use Rattle.plan_ratios.specs.Ratios.{empty, refused, ratiosOf};
 ghost use Rattle.plan_ratios.specs.Walk.{isEnd, WantedAre, FeedsAre, GapEndIs, Skipped};
 use plan_text::OptionU64;

@@ -1,38 +1,27 @@
 -- What the planner prints, from the words of its command line, each ended by a byte 0, and from its input.
 use Prim.Native.Nat.{ℕ, _*_}
-use mathlib.Core.Path.{_≡_}
 use mathlib.Core.Bool.{Bool, true, false, cond}
 use mathlib.Core.List.{List, [], _∷_}
-use lib.Dec.{leb, ltb}
-use lib.ListN.{length, getD}
+use lib.Dec.{leb}
+use lib.ListN.{length}
 use Rattle.header.specs.declared.FrameHeader.{FrameHeader}
 use Rattle.header.specs.Header.{channelsOf}
 use Rattle.layout.specs.Slots.{smrRows}
 use Rattle.plan_words.specs.declared.Words.{Words}
-use Rattle.plan_words.specs.declared.WordsAnswer.{WordsAnswer}
-use Rattle.plan_words.specs.declared.WordsAnswer.the-variants as Word
 use Rattle.plan_words.specs.Line.{wordsOf}
 use Rattle.plan_ratios.specs.declared.Ratios.{Ratios}
 use Rattle.plan_ratios.specs.declared.RatiosAnswer.{RatiosAnswer}
-use Rattle.plan_ratios.specs.declared.RatiosAnswer.the-variants as Ratio
+use Rattle.plan_ratios.specs.declared.RatiosAnswer.the-variants.{Accepted, CannotRead, TooMany, TooFew}
 use Rattle.plan_ratios.specs.Ratios.{ratiosOf}
 use Rattle.plan_page.specs.Page.{pageOf}
-use Rattle.text_line.specs.Line.{textOf}
-use Rattle.planner.specs.declared.PlanLine.{PlanLine}
-use Rattle.planner.specs.Notes.{wordsLine, ratiosLine, longWordsLine, longInputLine}
-
-abbrev pub wordsAccepted : WordsAnswer → Bool
-wordsAccepted Word.Accepted = true
-wordsAccepted Word.Unknown = false
-wordsAccepted Word.Twice = false
-wordsAccepted Word.NoSampleRate = false
-wordsAccepted Word.NoBitRate = false
+use Rattle.word_notes.specs.Notes.{wordsAccepted, wordsLine, longWordsLine, longInputLine}
+use Rattle.planner.specs.Notes.{ratiosLine}
 
 abbrev pub ratiosAccepted : RatiosAnswer → Bool
-ratiosAccepted Ratio.Accepted = true
-ratiosAccepted Ratio.CannotRead = false
-ratiosAccepted Ratio.TooMany = false
-ratiosAccepted Ratio.TooFew = false
+ratiosAccepted Accepted = true
+ratiosAccepted CannotRead = false
+ratiosAccepted TooMany = false
+ratiosAccepted TooFew = false
 
 -- how many ratios a header asks for: 32 for each channel
 abbrev pub slotsFor : FrameHeader → ℕ
@@ -52,20 +41,9 @@ withWords words w input =
     (withRatios (w .header) (w .banc) (ratiosOf (slotsFor (w .header)) input))
     (wordsLine words (w .answer) (w .at) (w .end) ∷ [])
 
--- words that are not accepted are told without asking for ratios
-unfoldable pub wantsRatios : List ℕ → Bool
-wantsRatios words = wordsAccepted (wordsOf words .answer)
-
 -- the whole answer, line by line
 unfoldable pub planOf : List ℕ → List ℕ → List (List ℕ)
 planOf words input =
     cond (leb 4096 (length words)) (longWordsLine ∷ [])
     (cond (leb 65_536 (length input)) (longInputLine ∷ [])
     (withWords words (wordsOf words) input))
-
--- ---- what the functions promise
-
--- the line of a number on a page, and whether there is one
-pub record LineIs (page : List (List ℕ)) (n : ℕ) (r : PlanLine) : Type 0 where
-  pub there : r .there ≡ ltb n (length page)
-  pub line : textOf (r .line) ≡ getD page n []

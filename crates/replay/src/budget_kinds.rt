@@ -129,7 +129,7 @@ fn same_allocation(numbers: &[u64; 256], allocation: Allocation) -> bool {
 }
 
 // Whether the numbers of a line from `at` on are these steps.
-fn same_steps(numbers: &[u64; 256], at: usize, steps: &[u32; 64]) -> bool
+pub fn same_steps(numbers: &[u64; 256], at: usize, steps: &[u32; 64]) -> bool
     requires { ⌜ at ≤ 192 ⌝ }
 {
     let mut slot: usize = 0;

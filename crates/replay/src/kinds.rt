@@ -47,8 +47,7 @@ pub fn replay(count: usize, numbers: &[u64; 256]) -> Verdict {
         30 => scalefactor_kinds::transmitted_count(count, numbers),
         31 => scalefactor_kinds::parts_on_wire(count, numbers),
         32 => budget_kinds::fixed(count, numbers),
-        33 => side_info_kinds::write_side_info(count, numbers),
-        _ => Verdict::Unread,
+        _ => side_info_kinds::replay(count, numbers),
     }
 }
 
@@ -60,7 +59,7 @@ pub fn print_name(kind: usize) -> bool {
         11..=16 => print_class_name(kind),
         17..=24 => print_sample_name(kind),
         25..=29 => print_budget_name(kind),
-        30..=33 => print_count_name(kind),
+        30..=34 => print_count_name(kind),
         _ => false,
     }
 }
@@ -124,6 +123,7 @@ fn print_count_name(kind: usize) -> bool {
         31 => io::write_all(1, b"parts_on_wire"),
         32 => io::write_all(1, b"fixed"),
         33 => io::write_all(1, b"write_side_info"),
+        34 => io::write_all(1, b"read_side_info"),
         _ => false,
     }
 }

@@ -1,2 +1,5 @@
 pub mod FlatLaws
 pub mod CountLaws
+pub mod HeaderLaws
+pub mod ListLaws
+pub mod AskedLaws

@@ -1,26 +1,23 @@
 -- The questions as they are asked one after the other: those before were answered yes, so that those to come decide.
 use mathlib.Core.Path.{_≡_, refl, sym, ap, ap₂, _∙_}
-use mathlib.Core.Bool.{Bool, true, false, cond, true≢false}
+use mathlib.Core.Bool.{true, false, true≢false}
 use mathlib.Core.List.{List, [], _∷_, _++_, append-assoc, map, flatMap}
-use Prim.Native.Nat.{ℕ, zero, suc, _+_, _^_, _≤_, _<_}
+use Prim.Native.Nat.{ℕ, _+_, _≤_, _<_}
 use native.Mathlib.Nat.{not-suc-le-zero}
 use native.Mathlib.Numerals.{add-one}
 use native.Mathlib.Omega.{arith}
-use lib.Dec.{eqb, lit≤}
 use lib.ListN.{length, getD, drop, drop-of-length-le}
 use lib.Seq.{drop-cons}
 use borrow.Author.Count.{below-more}
 use Rattle.header.specs.Questions.{Question, number}
 use Rattle.header.proofs.QuestionLaws.{said-yes, said-no}
-use Rattle.bitalloc.specs.Tables.{nbalOf}
 use Rattle.layout.specs.declared.Layout.{Layout}
 use Rattle.layout.specs.declared.AllocationField.{AllocationField}
 use Rattle.layout.specs.Layout.{own, fieldsOf, fieldIn}
-use Rattle.bit_string.specs.Bits.{bitsOf}
-use Rattle.side_info.specs.SideInfo.{SideInfo, sideInfo, fieldAsked, allocationFieldBits, scalefactorAsked}
+use Rattle.side_info.specs.SideInfo.{sideInfo, fieldAsked, scalefactorAsked}
 use Rattle.side_info.proofs.FlatLaws.{flat-next, flat-end}
 use Rattle.side_info_writer.specs.declared.FieldPlace.the-variants as Place
-use Rattle.side_info_writer.specs.OnTheWay.{found, Passed, Stopped, stepsAlone, EachTabled, TabledAre}
+use Rattle.side_info_writer.specs.OnTheWay.{found, Passed, Stopped, stepsAlone, TabledAre}
 use Rattle.side_info_writer.proofs.PlaceLaws.{place-passes, place-stops, place-refuses}
 
 -- ---- question 8, slot by slot

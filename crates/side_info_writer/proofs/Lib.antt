@@ -2,5 +2,4 @@ pub mod PenLaws
 pub mod PartLaws
 pub mod PlaceLaws
 pub mod AskedLaws
-pub mod ActiveLaws
 pub mod WholeLaws

@@ -1,12 +1,12 @@
 -- What is written slot by slot and field by field: a part, and the parts so far.
-use mathlib.Core.Path.{_≡_, refl, sym, ap, ap₂, _∙_, subst}
-use mathlib.Core.Bool.{Bool, true, false, cond, _&&_, _||_, true≢false}
-use mathlib.Core.List.{List, [], _∷_, _++_, append-nil, append-assoc, flatMap}
-use Prim.Native.Nat.{ℕ, zero, suc, _+_, _*_, _≤_, _<_}
+use mathlib.Core.Path.{_≡_, refl, sym, ap, _∙_, subst}
+use mathlib.Core.Bool.{Bool, true, false, _&&_, true≢false}
+use mathlib.Core.List.{List, [], _++_, append-nil, append-assoc, flatMap}
+use Prim.Native.Nat.{ℕ, _+_, _≤_, _<_}
 use native.Mathlib.Omega.{arith}
 use lib.Dec.{eqb, leb, ltb, lit<}
 use lib.ListN.{length, getD, drop, length-append}
-use borrow.Author.Tests.{eq-eqb, ne-eqb, leb-true}
+use borrow.Author.Tests.{leb-true}
 use Rattle.layout.specs.declared.Layout.{Layout}
 use Rattle.layout.specs.Layout.{fieldsOf}
 use Rattle.encoder_bit_budget.proofs.BudgetLaws.{allocation-small}
@@ -14,12 +14,11 @@ use Rattle.audio_data.specs.declared.Scfsi.{Scfsi}
 use Rattle.audio_data.specs.declared.Scfsi.the-variants.{ThreePerGranule, Share01Then2, ShareAll, Share0Then12}
 use Rattle.audio_data.specs.Scfsi.{partsOf, Three, sent}
 use Rattle.bit_string.specs.Bits.{bitsOf}
-use Rattle.bit_string.proofs.BitLaws.{length-bits}
 use Rattle.side_info.specs.SideInfo.{SideInfo, tabled, allocationFieldBits}
 use Rattle.side_info.proofs.CountLaws.{fields-count}
 use Rattle.side_info.proofs.FlatLaws.{flat-next, flat-end}
 use Rattle.side_info_writer.specs.declared.pen.Pen.{Pen}
-use Rattle.side_info_writer.specs.Pen.{position, Steady, Writes, Wrote}
+use Rattle.side_info_writer.specs.Pen.{position, Steady, Wrote}
 use Rattle.side_info_writer.specs.OnTheWay.{whereSent}
 use Rattle.side_info_writer.proofs.PenLaws.{wrote-nothing, wrote-on}
 

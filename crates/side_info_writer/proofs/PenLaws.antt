@@ -1,14 +1,16 @@
 -- Laws of the pen: a number that it puts is held, or fills a byte; writing goes on where it was; and the last byte takes what is held.
 use mathlib.Core.Path.{_≡_, refl, sym, ap, ap₂, _∙_, subst}
 use mathlib.Core.Bool.{Bool}
-use mathlib.Core.List.{List, [], _∷_, _++_, append-nil, append-assoc}
-use Prim.Native.Nat.{ℕ, zero, suc, _+_, _-_, _*_, _/_, _%_, _^_, _≤_, _<_}
+use mathlib.Core.List.{List, [], _++_, append-nil, append-assoc}
+use Prim.Native.Nat.{ℕ, _+_, _-_, _*_, _/_, _%_, _^_, _≤_, _<_}
 use native.Mathlib.Nat.{mod-lt, mul-one, add-zero, lt-of-lt-of-le}
 use native.Mathlib.Omega.{arith}
 use lib.Arith.{digits-lt}
 use lib.Dec.{lit≤}
-use lib.ListN.{length, set, length-append}
+use lib.ListN.{set, length-append}
 use lib.Pow.{pow-pos, pow-add, pow-mono, shl-lt, shr-lt}
+use Rattle.bit_fields.specs.Fields.{joined}
+use Rattle.bit_fields.proofs.FieldLaws.{joined-is}
 use Rattle.bit_string.specs.Bits.{bitsOf, packed}
 use Rattle.bit_string.proofs.BitLaws.{length-bits, split, modulo, beside}
 use Rattle.bit_string.proofs.PackLaws.{stored}
@@ -19,8 +21,12 @@ abbrev pen : ℕ → ℕ → ℕ → Pen
 pen at held count = record { at = at; held = held; count = count }
 
 -- what a steady pen holds fits a byte, also at its head
-pub held-small : (p : Pen) → Steady p → p .held < 256
+held-small : (p : Pen) → Steady p → p .held < 256
 held-small p s = lt-of-lt-of-le (s .small) (pow-mono {j = 8} (let f = s .few in omega arith))
+
+-- and a number of at most eight bits beside it
+pub side-by-side : (p : Pen) → Steady p → (v w : ℕ) → w ≤ 8 → v < 2 ^ w → joined (p .held) v w ≡ p .held * 2 ^ w + v
+side-by-side p s v w few small = joined-is (p .held) v w (held-small p s) few small
 
 pub head-small : (p : Pen) → Steady p → (x : ℕ) → x ≡ p .held * 2 ^ (8 - p .count) + 0 → x < 256
 head-small p s x e =
@@ -38,8 +44,8 @@ module _ (p : Pen) (steady : Steady p) (w v t : ℕ) (few : w ≤ 8) (small : v 
   total = rw e (both-small (p .held) (p .count) v w (steady .small) small)
 
   -- the bits so far and the number's are those of the two side by side
-  joined : (whole before : List Bool) → before ≡ whole ++ bitsOf (p .count) (p .held) → before ++ bitsOf w v ≡ whole ++ bitsOf (p .count + w) t
-  joined whole before q =
+  run-on : (whole before : List Bool) → before ≡ whole ++ bitsOf (p .count) (p .held) → before ++ bitsOf w v ≡ whole ++ bitsOf (p .count + w) t
+  run-on whole before q =
       ap (λ (bs : List Bool). bs ++ bitsOf w v) q
       ∙ append-assoc whole (bitsOf (p .count) (p .held)) (bitsOf w v)
       ∙ ap (λ (bs : List Bool). whole ++ bs) (sym (beside (p .count) w (p .held) v small) ∙ ap (bitsOf (p .count + w)) (sym e))
@@ -49,7 +55,7 @@ module _ (p : Pen) (steady : Steady p) (w v t : ℕ) (few : w ≤ 8) (small : v 
   kept old under = record {
     steady = record { few = under; small = total };
     moved = let l = length-bits w v in omega arith;
-    writes = λ before s. record { whole = s .whole; eights = s .eights; stored = s .stored; bits = joined (s .whole) before (s .bits) }
+    writes = λ before s. record { whole = s .whole; eights = s .eights; stored = s .stored; bits = run-on (s .whole) before (s .bits) }
   }
 
   -- eight bits make a byte
@@ -67,7 +73,7 @@ module _ (p : Pen) (steady : Steady p) (w v t : ℕ) (few : w ≤ 8) (small : v 
       stored = ap (λ (bytes : List ℕ). set bytes (p .at) x) (s .stored)
         ∙ ap (set (packed 174 (s .whole)) (p .at)) (sym (mul-one x))
         ∙ stored 174 (p .at) 8 x (s .whole) (s .eights) (omega arith) (lit≤ tt) byte;
-      bits = joined (s .whole) before (s .bits) ∙ ap (λ (bs : List Bool). s .whole ++ bs) apart ∙ sym (append-assoc (s .whole) (bitsOf 8 x) (bitsOf rest low))
+      bits = run-on (s .whole) before (s .bits) ∙ ap (λ (bs : List Bool). s .whole ++ bs) apart ∙ sym (append-assoc (s .whole) (bitsOf 8 x) (bitsOf rest low))
     }
   }
     where

@@ -1,30 +1,27 @@
 -- A field's place as the code finds it, and what it says of the questions and of the bits.
-use mathlib.Core.Path.{_≡_, refl, sym, ap, ap₂, _∙_, subst}
+use mathlib.Core.Path.{_≡_, refl, sym, ap, ap₂, _∙_}
 use mathlib.Core.Bool.{Bool, true, false, cond, _&&_}
 use mathlib.Core.List.{List, [], _∷_, _++_}
-use mathlib.Core.Option.{Option, none, some, Option·none-ne-some}
-use Prim.Native.Nat.{ℕ, zero, suc, _+_, _*_, _^_, _≤_, _<_}
+use mathlib.Core.Option.{Option, none, some}
+use Prim.Native.Nat.{ℕ, zero, suc, _+_, _^_, _<_}
 use native.Mathlib.Nat.{zero-add}
 use native.Mathlib.Omega.{arith}
-use native.Mathlib.Decide.{decLt}
 use lib.Dec.{eqb}
 use lib.ListN.{length, getD}
 use borrow.Author.Tests.{eqb-true, eqb-false, eq-eqb, ne-eqb}
-use Rattle.tables.proofs.Search.{past}
 use Rattle.header.specs.Questions.{Question, number}
-use Rattle.header.proofs.QuestionLaws.{said-yes, said-no}
+use Rattle.header.proofs.QuestionLaws.{said-yes}
 use Rattle.bitalloc.specs.declared.BitAllocTable.{BitAllocTable}
 use Rattle.bitalloc.specs.Options.{isSome, orZero}
-use Rattle.bitalloc.specs.Tables.{sblimitOf, nbalOf, rowOf, stepsAt, indexOf}
-use Rattle.bitalloc.proofs.RowLaws.{row-rule, steps-of-index}
+use Rattle.bitalloc.specs.Tables.{sblimitOf, nbalOf, indexOf}
+use Rattle.bitalloc.proofs.RowLaws.{index-small}
 use Rattle.layout.specs.declared.Layout.{Layout}
 use Rattle.layout.specs.declared.AllocationField.{AllocationField}
 use Rattle.layout.specs.Slots.{slotOf}
-use Rattle.layout.specs.Layout.{served, fieldSteps}
+use Rattle.layout.specs.Layout.{fieldSteps}
 use Rattle.bit_string.specs.Bits.{bitsOf}
 use Rattle.bit_string.proofs.BitLaws.{length-bits}
 use Rattle.side_info.specs.SideInfo.{SideInfo, sameSteps, sharedAsked, rowAsked, fieldAsked, allocationFieldBits}
-use Rattle.side_info_writer.specs.declared.FieldPlace.{FieldPlace}
 use Rattle.side_info_writer.specs.declared.FieldPlace.the-variants as Place
 use Rattle.side_info_writer.specs.OnTheWay.{agree, held, foundBy, found}
 
@@ -52,15 +49,6 @@ pub at-only : (b : Bool) (o : Option ℕ) (p : ℕ) → Place.At p ≡ foundBy b
 at-only false o p e = absurd (let z : _≡_ {A = ℕ} 0 1 = cc in omega arith)
 at-only true none p e = absurd (let z : _≡_ {A = ℕ} 0 1 = cc in omega arith)
 at-only true (some q) p e = (refl, cc)
-
--- a row's place fits the field
-index-small : (t : BitAllocTable) (sb n p : ℕ) → sb < sblimitOf t → indexOf t sb n ≡ some p → p < 2 ^ nbalOf t sb
-unfolding stepsAt
-index-small t sb n p h e = rw (← row-rule t sb h .places) (go (decLt p (length (rowOf t sb))))
-  where
-    go : Dec (p < length (rowOf t sb)) → p < length (rowOf t sb)
-    go (yes l) = l
-    go (no l) = absurd (Option·none-ne-some n (sym (past (rowOf t sb) p (omega arith)) ∙ steps-of-index t sb p n e))
 
 -- refused by 6 or by 7, as the first of the two says
 refused-only : (b : Bool) (o : Option ℕ) (n : ℕ) → Place.Refused n ≡ foundBy b o

@@ -1,38 +1,37 @@
 -- The three parts are the whole, and each answer is the one by its number.
 use mathlib.Core.Path.{_≡_, refl, sym, ap, ap₂, _∙_, subst}
 use mathlib.Core.Bool.{Bool, true, false, cond}
-use mathlib.Core.List.{List, [], _∷_, _++_, append-assoc, map, flatMap}
-use mathlib.Core.Option.{some}
-use Prim.Native.Nat.{ℕ, zero, suc, _+_, _-_, _*_, _≤_, _<_}
+use mathlib.Core.List.{List, [], _++_, append-assoc, map, flatMap}
+use Prim.Native.Nat.{ℕ, _+_, _-_, _*_, _≤_}
 use native.Mathlib.Omega.{arith}
 use lib.Dec.{eqb, lit≤}
 use lib.ListN.{length, drop, replicate, length-append}
 use lib.Seq.{drop-at}
-use borrow.Author.Tests.{eqb-true}
 use Rattle.header.specs.declared.FrameHeader.{FrameHeader}
-use Rattle.header.specs.Questions.{Question, number, firstNo}
+use Rattle.header.specs.Questions.{Question, number}
 use Rattle.header.proofs.QuestionLaws.{behind, all-yes, some-no}
-use Rattle.bitalloc.specs.declared.BitAllocTable.{BitAllocTable}
 use Rattle.layout.specs.declared.Layout.{Layout}
-use Rattle.layout.specs.Layout.{layoutOf, fieldsOf, sumOver}
+use Rattle.layout.specs.Layout.{fieldsOf, sumOver}
 use Rattle.audio_data.specs.declared.ScfsiSlot.{ScfsiSlot}
 use Rattle.encoder_bit_budget.specs.declared.FixedBitBudget.{FixedBitBudget}
 use Rattle.encoder_bit_budget.specs.declared.BitAllocError.{BitAllocError}
 use Rattle.encoder_bit_budget.specs.declared.Budget.the-variants.{Ok, Refused}
 use Rattle.encoder_bit_budget.specs.Budget.{plain, headerAsked, errorNumber, budgetIn, budgetOf, layoutIn}
-use Rattle.encoder_bit_budget.proofs.BudgetLaws.{allocation-small, refusing-header, apart, answer-is, table-is, layout-is}
+use Rattle.encoder_bit_budget.proofs.BudgetLaws.{allocation-small, refusing-header, apart, answer-is}
 use Rattle.bit_string.specs.Bits.{bitsOf, packed, unpacked}
 use Rattle.bit_string.proofs.BitLaws.{length-bits}
 use Rattle.bit_string.proofs.PackLaws.{unpacked-packed}
-use Rattle.side_info.specs.SideInfo.{SideInfo, sideInfo, headerLayout, orB2a, activeSlots, allocationFieldBits, scfsiBits, scalefactorBits, sideInfoBits, fieldAsked, scalefactorAsked, recordAsked, slotCount, bitCount}
+use Rattle.side_info.specs.SideInfo.{SideInfo, sideInfo, headerLayout, activeSlots, allocationFieldBits, scfsiBits, scalefactorBits, sideInfoBits, fieldAsked, scalefactorAsked, recordAsked, slotCount}
 use Rattle.side_info.proofs.CountLaws.{fields-count, slots-count, slot-most, counted, most}
 use Rattle.side_info.proofs.FlatLaws.{sum-most}
+use Rattle.side_info.proofs.HeaderLaws.{same-layout}
 use Rattle.side_info_writer.specs.declared.WrittenSideInfo.{WrittenSideInfo}
-use Rattle.side_info_writer.specs.declared.ActiveSlots.{ActiveSlots}
+use Rattle.active_slots.specs.declared.ActiveSlots.{ActiveSlots}
 use Rattle.side_info_writer.specs.declared.pen.Pen.{Pen}
-use Rattle.side_info_writer.specs.Pen.{position, Steady, Writes, Wrote, Finished}
+use Rattle.side_info_writer.specs.Pen.{position, Writes, Wrote, Finished}
 use Rattle.side_info_writer.specs.Written.{written, whereZero, writerAsked, writtenOf, WrittenIs}
-use Rattle.side_info_writer.specs.OnTheWay.{Passed, Stopped, listed, ActiveAre, TabledAre, WrittenBehind, writtenUnder}
+use Rattle.side_info_writer.specs.OnTheWay.{Passed, Stopped, TabledAre, WrittenBehind, writtenUnder}
+use Rattle.active_slots.specs.Active.{listed, ActiveAre}
 
 -- ---- behind the allocation
 
@@ -153,16 +152,13 @@ module _ (h : FrameHeader) (r : SideInfo) where
       ∙ of-number (errorNumber e) first
 
   module _ (b : FixedBitBudget) (ok : budgetIn (Ok b) ≡ budgetOf (plain h 0)) where
-    same-layout : layoutIn b ≡ headerLayout h
-    same-layout = layout-is (plain h 0) b ok ∙ ap (λ o. layoutOf h (orB2a o)) (sym (table-is (plain h 0) b ok))
-
     -- it is accepted
     pub from-accepted : (l : Layout) (w : WrittenSideInfo) → l ≡ layoutIn b → w ≡ writtenUnder l r → w ≡ writtenOf h r
     unfolding writtenUnder
     from-accepted l w e made =
         let z : number (headerAsked h) ≡ 0 = sym (answer-is (plain h 0)) ∙ sym (ap (λ a. a .answer) ok) in
         let n = number (recordAsked (headerLayout h) r) in
-        made ∙ ap (λ (k : Layout). writtenUnder k r) (e ∙ same-layout)
+        made ∙ ap (λ (k : Layout). writtenUnder k r) (e ∙ same-layout h b ok)
         ∙ of-number n (behind 0 (headerAsked h) (recordAsked (headerLayout h) r) ∙ all-yes n (headerAsked h) (refusing-header h) z)
 
   -- the whole answer keeps the promises

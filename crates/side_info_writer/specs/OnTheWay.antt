@@ -1,12 +1,12 @@
 -- What the functions find on the way to the bytes.
 -- For the contracts of private functions alone: nothing that a caller has to believe stands here.
-use Prim.Native.Nat.{ℕ, _≤_, _<_}
+use Prim.Native.Nat.{ℕ, _<_}
 use mathlib.Core.Path.{_≡_}
 use mathlib.Core.Bool.{Bool, true, false, cond}
-use mathlib.Core.List.{List, [], _∷_, _++_, map, flatMap}
+use mathlib.Core.List.{List, [], _++_, map, flatMap}
 use mathlib.Core.Option.{Option, none, some}
 use lib.Dec.{eqb}
-use lib.ListN.{length, getD, take}
+use lib.ListN.{length, getD}
 use Rattle.header.specs.Questions.{Question, number}
 use Rattle.bitalloc.specs.declared.BitAllocTable.{BitAllocTable}
 use Rattle.bitalloc.specs.Tables.{indexOf}
@@ -15,12 +15,11 @@ use Rattle.layout.specs.declared.AllocationField.{AllocationField}
 use Rattle.layout.specs.Layout.{fieldsOf}
 use Rattle.audio_data.specs.declared.ScfsiSlot.{ScfsiSlot}
 use Rattle.bit_string.specs.Bits.{bitsOf, packed}
-use Rattle.side_info.specs.SideInfo.{SideInfo, sideInfo, activeSlots, allocationFieldBits, scfsiBits, scalefactorBits, fieldAsked, scalefactorAsked, recordAsked, sideInfoBits}
+use Rattle.side_info.specs.SideInfo.{SideInfo, sideInfo, allocationFieldBits, scfsiBits, scalefactorBits, fieldAsked, scalefactorAsked, recordAsked, sideInfoBits}
 use Rattle.side_info_writer.specs.declared.FieldPlace.{FieldPlace}
 use Rattle.side_info_writer.specs.declared.FieldPlace.the-variants as Place
 use Rattle.side_info_writer.specs.declared.Allocated.{Allocated}
 use Rattle.side_info_writer.specs.declared.Allocated.the-variants as All
-use Rattle.side_info_writer.specs.declared.ActiveSlots.{ActiveSlots}
 use Rattle.side_info_writer.specs.declared.WrittenSideInfo.{WrittenSideInfo}
 use Rattle.side_info_writer.specs.declared.pen.Pen.{Pen}
 use Rattle.side_info_writer.specs.Pen.{Writes, Wrote}
@@ -63,21 +62,7 @@ AllocatedIs l steps old new (All.Done p) =
     × Wrote (record { at = 0; held = 0; count = 0 }) old (flatMap (allocationFieldBits l (stepsAlone steps)) (fieldsOf l)) p new
 AllocatedIs l steps old new (All.Refused n) = Stopped (flatMap (fieldAsked l (stepsAlone steps)) (fieldsOf l)) n
 
--- ---- the active slots
-
-abbrev pub listed : ActiveSlots → List ℕ
-listed a = take (a .count) (a .slots)
-
--- they are slots
-pub record SlotsIn (a : ActiveSlots) : Type 0 where
-  pub long : length (a .slots) ≡ 64
-  pub few : a .count ≤ 60
-  pub below : (k : ℕ) → getD (a .slots) k 0 < 64
-
--- and the active ones of a layout
-pub record ActiveAre (l : Layout) (steps : List ℕ) (a : ActiveSlots) : Type 0 where
-  pub slots : SlotsIn a
-  pub whole : listed a ≡ activeSlots l steps
+-- ---- the indices
 
 -- question 8 is answered yes of every slot
 pub record EachTabled (slots scalefactors : List ℕ) : Type 0 where

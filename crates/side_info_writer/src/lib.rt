@@ -4,12 +4,14 @@ ghost use mathlib.Core.Bool.{true};
 ghost use mathlib.Core.List.{[], flatMap};
 ghost use Prim.Native.Nat.{_+_, _≤_};
 ghost use lib.ListN.{length};
+ghost use Rattle.active_slots.specs.Active.{SlotsIn, listed};
 ghost use Rattle.audio_data.specs.Scfsi.{three, sent};
 ghost use Rattle.bit_string.specs.Bits.{bitsOf, packed};
 ghost use Rattle.side_info.specs.SideInfo.{sideInfo, tabled, scfsiBits, scalefactorBits};
 ghost use Rattle.side_info_writer.specs.Written.{written, WrittenIs};
 ghost use Rattle.side_info_writer.specs.Pen.{Steady, position, Wrote};
-ghost use Rattle.side_info_writer.specs.OnTheWay.{agree, held, found, AllocatedIs, SlotsIn, listed, ActiveAre, TabledAre, EachTabled, whereSent, WrittenBehind, writtenUnder};
+ghost use Rattle.side_info_writer.specs.OnTheWay.{agree, held, found, AllocatedIs, TabledAre, EachTabled, whereSent, WrittenBehind, writtenUnder};
+use active_slots::ActiveSlots;
 use audio_data::{Scfsi, ScfsiSlot};
 use bitalloc::{BitAllocTable, OptionU32};
 use encoder_bit_budget::Budget;
@@ -41,12 +43,6 @@ enum FieldPlace {
 enum Allocated {
     Done(Pen),
     Refused(u32),
-}
-
-// The active slots: the first `count` entries.
-struct ActiveSlots {
-    slots: [u8; 64],
-    count: usize,
 }
 
 // The steps and scfsi by slot and the scalefactor indices, at 3 * slot + granule, as the bits of a header's frame. Slots that the header's layout does
@@ -88,7 +84,7 @@ fn write_under(layout: Layout, nb_steps: [u32; 64], scfsi: [ScfsiSlot; 64], scal
     let fields = write_allocation(layout, nb_steps, &mut bytes);
     match fields {
         Allocated::Done(pen) => {
-            let active = active_slots(layout, nb_steps);
+            let active = active_slots::active_slots(layout, nb_steps);
             if indices_tabled(active, scalefactor) {
                 write_slots(active, scfsi, scalefactor, pen, bytes)
             } else {
@@ -152,27 +148,6 @@ fn write_allocation(layout: Layout, nb_steps: [u32; 64], bytes: &mut [u8; 174]) 
         f = f + 1;
     }
     Allocated::Done(pen)
-}
-
-// The active slots, in the order in which scfsi and scalefactors travel. They are gathered without a branch that the steps decide: a slot is laid down
-// behind those so far, and counted where its steps are not 0.
-fn active_slots(layout: Layout, nb_steps: [u32; 64]) -> ActiveSlots
-    ensures { λ r. ⌜ ActiveAre layout «nb_steps» r ⌝ }
-{
-    let slots = layout.slots();
-    let mut active = [0; 64];
-    let mut count: usize = 0;
-    let mut k: usize = 0;
-    while k < slots {
-        let slot = layout.slot(k);
-        active[count] = slot as u8;
-        count = count + ((0 < nb_steps[slot]) as usize);
-        k = k + 1;
-    }
-    ActiveSlots {
-        slots: active,
-        count,
-    }
 }
 
 // Whether Table 3-B.1 has the three indices of a slot.

@@ -1,6 +1,6 @@
 // A pen that writes bits into bytes, most significant first. It never reads a byte back: bits are held until there are eight of them.
 ghost use mathlib.Core.Path.{_≡_};
-ghost use Prim.Native.Nat.{_+_, _*_, _/_, _%_, _^_, _≤_, _<_};
+ghost use Prim.Native.Nat.{_+_, _^_, _≤_, _<_};
 ghost use Rattle.bit_string.specs.Bits.{bitsOf};
 ghost use Rattle.side_info_writer.specs.Pen.{Steady, position, Wrote, Finished};
 
@@ -23,46 +23,22 @@ pub fn new() -> Pen
     }
 }
 
-// Two numbers side by side: the second in `width` bits.
-fn beside(high: u32, low: u32, width: u32) -> u32
-    requires { ⌜ (high < 256) × (width ≤ 8) × (low < 2 ^ width) ⌝ }
-    ensures { λ r. ⌜ r ≡ high * 2 ^ width + low ⌝ }
-{
-    (high << width) | low
-}
-
-// What stands above `width` bits.
-fn above(n: u32, width: u32) -> u32
-    requires { ⌜ width < 8 ⌝ }
-    ensures { λ r. ⌜ r ≡ n / 2 ^ width ⌝ }
-{
-    n >> width
-}
-
-// What stands in `width` bits.
-fn below(n: u32, width: u32) -> u32
-    requires { ⌜ width < 8 ⌝ }
-    ensures { λ r. ⌜ r ≡ n % 2 ^ width ⌝ }
-{
-    n & ((1 << width) - 1)
-}
-
 // A number in `width` bits behind what is written.
 pub fn put(pen: Pen, value: u32, width: u32, bytes: &mut [u8; 174]) -> Pen
     requires { ⌜ Steady pen × (width ≤ 8) × (value < 2 ^ width) × (position pen + width ≤ 1392) ⌝ }
     ensures { λ r. ⌜ Wrote pen (now (bytes .entry)) (bitsOf width value) r (now (bytes .exit)) ⌝ }
 {
     let at = pen.at;
-    let held = beside(pen.held, value, width);
+    let held = bit_fields::beside(pen.held, value, width);
     let count = pen.count + width;
     if count < 8 {
         return Pen { at, held, count };
     }
     let rest = count - 8;
-    bytes[at] = above(held, rest) as u8;
+    bytes[at] = bit_fields::above(held, rest) as u8;
     Pen {
         at: at + 1,
-        held: below(held, rest),
+        held: bit_fields::below(held, rest),
         count: rest,
     }
 }
@@ -75,6 +51,6 @@ pub fn finish(pen: Pen, bytes: &mut [u8; 174])
     let at = pen.at;
     let count = pen.count;
     if 0 < count {
-        bytes[at] = beside(pen.held, 0, 8 - count) as u8;
+        bytes[at] = bit_fields::beside(pen.held, 0, 8 - count) as u8;
     }
 }

@@ -1,3 +1,4 @@
 pub mod Line
 pub mod Number
 pub mod Decibels
+pub mod Page

@@ -1,5 +1,10 @@
 // A line of text, built from the left: texts, numbers, decibels to the hundredth, and columns that are aligned to the right.
-// A line holds 256 bytes; what is beyond them is cut off.
+// A line holds 256 bytes; what is beyond them is cut off. Of a page, which is a list of lines, any line can be asked for.
+mod page;
+
+pub use page::only;
+pub use page::PageLine;
+
 ghost use mathlib.Core.Path.{_≡_};
 ghost use mathlib.Core.Bool.{cond};
 ghost use mathlib.Core.List.{[], _++_};

@@ -18,6 +18,7 @@ use Rattle.table_selection.specs.Select.{tableOf}
 use Rattle.audio_data.specs.declared.Scfsi.{Scfsi}
 use Rattle.audio_data.specs.declared.Scfsi.the-variants.{ThreePerGranule, ShareAll}
 use Rattle.audio_data.specs.declared.ScfsiSlot.{ScfsiSlot}
+use Rattle.audio_data.specs.Scfsi.{codeOf}
 use Rattle.encoder_scalefactors.specs.Indices.{pickOf}
 use Rattle.encoder_scfsi.specs.Select.{selection}
 use Rattle.encoder_bit_budget.specs.Budget.{plain, BudgetAnswer, budgetOf, fixedIn}
@@ -26,6 +27,8 @@ use Rattle.encoder_bit_allocator.specs.Allocation.{allocationOf}
 use Rattle.side_info.specs.SideInfo.{sideInfo}
 use Rattle.side_info_writer.specs.declared.WrittenSideInfo.{WrittenSideInfo}
 use Rattle.side_info_writer.specs.Written.{writtenOf}
+use Rattle.side_info_reading.specs.declared.ReadSideInfo.{ReadSideInfo}
+use Rattle.side_info_reading.specs.Read.{readOf}
 
 -- ---- what is asked, and what is answered
 
@@ -45,6 +48,8 @@ pub data Question : Type 0 where
   allocation : FrameHeader → Ratios → ℕ → Question
   -- its side information, written from steps, scfsi and scalefactor indices
   sideInformation : FrameHeader → List ℕ → List ScfsiSlot → List ℕ → Question
+  -- the side information at the front of bytes
+  sideInformationIn : FrameHeader → List ℕ → Question
   -- the indices used for three scalefactor indices
   used : ℕ → ℕ → ℕ → Question
   -- the scalefactor index of a largest magnitude
@@ -61,6 +66,8 @@ pub data Answer : Type 0 where
   allocated : ℕ → List ℕ → ℕ → ℕ → ℕ → ℕ → Answer
   -- of side information: the answer's number, the bytes, the bits used
   bits : ℕ → List ℕ → ℕ → Answer
+  -- of side information that is read: the answer's number, the steps, the scfsi codes, the scalefactor indices, the bits used
+  found : ℕ → List ℕ → List ℕ → List ℕ → ℕ → Answer
   -- scalefactor indices
   indices : List ℕ → Answer
 
@@ -72,6 +79,9 @@ ofAllocation a = allocated (a .number) (a .audio .«nb_steps») (a .left) (a .cb
 
 abbrev ofWritten : WrittenSideInfo → Answer
 ofWritten w = bits (w .number) (w .bytes) (w .«bits_used»)
+
+abbrev ofRead : ReadSideInfo → Answer
+ofRead r = found (r .number) (r .«nb_steps») (map (λ s. codeOf (s .scfsi)) (r .scfsi)) (r .scalefactor) (r .«bits_used»)
 
 -- the two rows of ratios, where `any` stands for those given
 abbrev rowsOf : List (List Float) → Ratios → List (List Float)
@@ -85,6 +95,7 @@ answerTo smr (bytes h) = sized (frameSize h .answer) (frameSize h .bytes)
 answerTo smr (budget h) = ofBudget (budgetOf (plain h 0))
 answerTo smr (allocation h ratios banc) = ofAllocation (allocationOf (plain h banc) (rowsOf smr ratios))
 answerTo smr (sideInformation h steps scfsi scalefactors) = ofWritten (writtenOf h (sideInfo steps scfsi scalefactors))
+answerTo smr (sideInformationIn h captured) = ofRead (readOf h captured)
 answerTo smr (used a b c) = indices (selection a b c .used)
 answerTo smr (index x) = indices (pickOf x ∷ [])
 
@@ -130,6 +141,10 @@ stereo = frame false 44_100 192_000 Stereo true
 -- the steps of the slots: a number of subband 3 and one of subband 4 in channel 0, one of subband 4 in channel 1
 abbrev around4 : ℕ → ℕ → ℕ → List ℕ
 around4 a b c = idle 3 ++ (a ∷ b ∷ idle 27 ++ (idle 4 ++ (c ∷ idle 27)))
+
+-- a refusal to read
+abbrev nothingFound : ℕ → Answer
+nothingFound n = found n (idle 64) (idle 64) (idle 192) 0
 
 -- one scfsi for every slot, and one index for every granule of every slot
 abbrev allWith : Scfsi → List ScfsiSlot
@@ -203,6 +218,25 @@ cases =
     ∷ case (sideInformation mono (idle 8 ++ replicate 56 4) (allWith ShareAll) (indexed 63)) (bits 0 (idle 174) 26)
     -- the header is asked first
     ∷ case (sideInformation (frame false 48_000 64_999 SingleChannel true) (4 ∷ idle 63) (allWith ShareAll) (indexed 63)) (bits 16 (idle 174) 0)
+    -- and read: the 26 bits of allocation do not fit three bytes; in four they say that nothing is allocated
+    ∷ case (sideInformationIn mono []) (nothingFound 9)
+    ∷ case (sideInformationIn mono (idle 3)) (nothingFound 9)
+    ∷ case (sideInformationIn mono (idle 4)) (found 0 (idle 64) (idle 64) (idle 192) 26)
+    -- subband 0 alone has steps, one index for all granules; without the last two of its bits
+    ∷ case (sideInformationIn mono (16 ∷ 0 ∷ 0 ∷ 33 ∷ 64 ∷ [])) (found 0 (3 ∷ idle 63) (2 ∷ idle 63) (5 ∷ 5 ∷ 5 ∷ idle 189) 34)
+    ∷ case (sideInformationIn mono (16 ∷ 0 ∷ 0 ∷ 33 ∷ [])) (nothingFound 9)
+    -- two indices, 5 and 62; 5 and 63, with which the bytes end
+    ∷ case (sideInformationIn mono (16 ∷ 0 ∷ 0 ∷ 17 ∷ 126 ∷ [])) (found 0 (3 ∷ idle 63) (1 ∷ idle 63) (5 ∷ 5 ∷ 62 ∷ idle 189) 40)
+    ∷ case (sideInformationIn mono (16 ∷ 0 ∷ 0 ∷ 17 ∷ 127 ∷ [])) (nothingFound 10)
+    -- three indices, of which the third is not there: the second is 63, or 62
+    ∷ case (sideInformationIn mono (16 ∷ 0 ∷ 0 ∷ 1 ∷ 127 ∷ [])) (nothingFound 10)
+    ∷ case (sideInformationIn mono (16 ∷ 0 ∷ 0 ∷ 1 ∷ 126 ∷ [])) (nothingFound 9)
+    -- joint stereo with bound 4: subband 4 has one field for both channels, and scfsi and indices of each
+    ∷ case (sideInformationIn (frame false 48_000 64_000 JointStereo true) (0 ∷ 0 ∷ 0 ∷ 4 ∷ 0 ∷ 177 ∷ 193 ∷ 8 ∷ []))
+      (found 0 (around4 0 5 5) (around4 0 2 3) (idle 12 ++ (7 ∷ 7 ∷ 7 ∷ idle 93 ++ (1 ∷ 2 ∷ 2 ∷ idle 81))) 62)
+    ∷ case (sideInformationIn (frame false 48_000 64_000 JointStereo true) (0 ∷ 0 ∷ 0 ∷ 4 ∷ 0 ∷ 177 ∷ 193 ∷ [])) (nothingFound 9)
+    -- the header is asked first
+    ∷ case (sideInformationIn (frame false 48_000 64_999 SingleChannel true) []) (nothingFound 16)
     -- the scalefactor indices 10, 12, 11 become one; 0, 3, 3 stay; 0, 2, 4 become the smallest
     ∷ case (used 10 12 11) (indices (10 ∷ 10 ∷ 10 ∷ []))
     ∷ case (used 0 3 3) (indices (0 ∷ 3 ∷ 3 ∷ []))

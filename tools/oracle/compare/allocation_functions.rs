@@ -13,7 +13,7 @@ use reference::encoder_bit_allocator::{allocate_bits, demand_bits};
 pub const FUNCTIONS: [Function; 2] = [
     Function {
         name: "demand_bits",
-        share: 8,
+        share: 7,
         arguments: HEAD,
         ins: &[doubles(SLOTS)],
         outs: &[Out {
@@ -22,7 +22,7 @@ pub const FUNCTIONS: [Function; 2] = [
             count: 1,
         }],
         draw: draw_demand,
-        library: |case, [out, _]| {
+        library: |case, [out, ..]| {
             let ratios = case.ins[0].as_ptr().cast();
             call_with_head!(
                 folgrist_demand_bits,
@@ -53,7 +53,7 @@ pub const FUNCTIONS: [Function; 2] = [
             },
         ],
         draw: draw_allocation,
-        library: |case, [steps, out]| {
+        library: |case, [steps, out, ..]| {
             let ratios = case.ins[0].as_ptr().cast();
             call_with_head!(
                 folgrist_allocate_bits,
@@ -98,7 +98,7 @@ fn draw_allocation(case: &mut Case, random: &mut Random) {
     draw_ratios(case, random);
 }
 
-fn answer_demand(case: &Case, [out, _]: &mut Memories) -> u32 {
+fn answer_demand(case: &Case, [out, ..]: &mut Memories) -> u32 {
     let number = refusal(&case.numbers);
     let bits = match number {
         0 => demand_bits(&header_of(&case.numbers), &ratios_of(&case.ins[0])),
@@ -109,7 +109,7 @@ fn answer_demand(case: &Case, [out, _]: &mut Memories) -> u32 {
 }
 
 /// The steps are the Rust's; it answers no bits left, so they are counted from the steps.
-fn answer_allocation(case: &Case, [steps, out]: &mut Memories) -> u32 {
+fn answer_allocation(case: &Case, [steps, out, ..]: &mut Memories) -> u32 {
     for slot in 0..SLOTS {
         steps.put(4, slot, 0);
     }

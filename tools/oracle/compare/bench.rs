@@ -1,9 +1,11 @@
-//! What is timed: six functions, on the headers and inputs of an encoder.
+//! What is timed: seven functions, on the headers and inputs of an encoder.
 
 use crate::bench_inputs::{FRAME_LEN, HEADS, frames, ratio_sets};
 use crate::case::Memory;
 use crate::header_functions::call_with_head;
 use crate::library::*;
+use crate::read_bench::time_reading;
+use crate::read_functions::READ_SIDE_INFO;
 use crate::scalefactor_functions::frame_of;
 use crate::side_info_bench::time_side_info;
 use crate::side_info_functions::SIDE_INFO;
@@ -25,7 +27,7 @@ const BATCH: usize = 256;
 
 type Timed = (&'static str, fn() -> Vec<Row>);
 
-const TIMED: [Timed; 7] = [
+const TIMED: [Timed; 8] = [
     ("allocate_bits", || by_header(ratio_sets(), time_allocation)),
     ("demand_bits", || by_header(ratio_sets(), time_demand)),
     ("compute_scalefactors", || {
@@ -38,6 +40,7 @@ const TIMED: [Timed; 7] = [
     ),
     ("select_scfsi", time_selections),
     (SIDE_INFO, time_side_info),
+    (READ_SIDE_INFO, time_reading),
 ];
 
 /// All, or those whose names begin with one of the words; false where a word names none.

@@ -73,7 +73,7 @@ pub fn frames() -> Vec<Vec<u64>> {
 }
 
 /// So many that a branch predictor does not learn them: with 16 times as many a call takes hardly
-/// longer, with 16 in all the Rust's takes a third of the time.
+/// longer, with 16 in all the Rust's takes a third of the time to write and half of it to read.
 const RECORDS: usize = 1024;
 
 pub const SIDE_INFO_HEADS: [(&str, Head); 4] = [

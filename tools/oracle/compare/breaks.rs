@@ -1,11 +1,12 @@
 //! Wrong answers on purpose: one for each function, some about the ladder, one for each rule of an
-//! allocation, and those about side information.
+//! allocation, and those about side information, written and read.
 
 use crate::allocation_functions::ALLOCATE;
 use crate::case::{Case, Function, OUT_OF_RANGE, Reply, SHORT_SLICE};
 use crate::header_functions::{BANC, refusal_on_ladder};
 use crate::judge::{ANSWER, Break};
 use crate::layout::Field;
+use crate::read_breaks;
 use crate::rules::{Held, LAYOUT, PART_2, PART_3, PART_4, ROW, SHARED};
 use crate::side_info_breaks;
 use questions::heads::{BIT_RATE, LSF};
@@ -25,6 +26,7 @@ pub fn breaks(functions: &[Function]) -> Vec<Break> {
     let mut breaks: Vec<Break> = functions.iter().map(of_function).collect();
     breaks.extend(LADDER);
     breaks.extend(side_info_breaks::BREAKS);
+    breaks.extend(read_breaks::BREAKS);
     breaks.extend(of_allocations());
     breaks
 }
@@ -193,11 +195,13 @@ fn take_step_back(held: &Held, reply: &mut Reply, _: &[u64]) {
     }
 }
 
-/// A field's last step goes to another that had less need of it, at the same price.
+/// A field's last step goes to another that had less need of it, at the same price; not where a NaN
+/// is read, since the rule is not asked there.
 fn exchange_steps(held: &Held, reply: &mut Reply, ratios: &[u64]) {
     let fields = &held.layout.fields;
     let pairs = (0..fields.len()).flat_map(|from| (0..fields.len()).map(move |to| (from, to)));
-    for (from, to) in pairs {
+    let asked = !held.reads_nan(ratios);
+    for (from, to) in pairs.filter(|(from, to)| asked && from != to) {
         let (own, other) = (&fields[from], &fields[to]);
         let (last, next) = (held.places[from], held.places[to] + 1);
         if last > 0

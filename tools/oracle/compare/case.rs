@@ -15,8 +15,9 @@ pub const SHORT_SLICE: u32 = 98;
 pub const OUT_OF_RANGE: u32 = 14;
 pub const NOTHING_THERE: u32 = 97;
 
-/// The most slices that a function reads.
+/// The most slices that a function reads, and that it writes.
 const READ_SLICES: usize = 3;
+const WRITTEN_SLICES: usize = 4;
 
 /// The arguments of one call.
 #[derive(Clone, Default)]
@@ -26,7 +27,7 @@ pub struct Case {
     /// The slices that are read; a double is its bits.
     pub ins: [Vec<u64>; READ_SLICES],
     /// The lengths of the slices that are written.
-    pub lengths: [usize; 2],
+    pub lengths: [usize; WRITTEN_SLICES],
     /// What the memory holds before the call follows from this.
     pub fill: u64,
 }
@@ -36,7 +37,7 @@ pub struct Case {
 #[repr(align(8))]
 pub struct Memory([u8; MEMORY_BYTES]);
 
-pub type Memories = [Memory; 2];
+pub type Memories = [Memory; WRITTEN_SLICES];
 
 impl Memory {
     pub fn filled(fill: u64) -> Self {
@@ -95,6 +96,13 @@ pub struct In {
     pub count: usize,
 }
 
+impl In {
+    /// No element must be there: how many there are belongs to the input, and is drawn with them.
+    pub fn has_any_length(&self) -> bool {
+        self.count == 0
+    }
+}
+
 pub const fn doubles(count: usize) -> In {
     In {
         name: "doubles",
@@ -146,8 +154,10 @@ impl Function {
             *length = draw_length(out.count, random);
         }
         for (slice, read) in case.ins.iter_mut().zip(self.ins) {
-            let spare = random.next() >> (64 - 8 * read.width);
-            slice.resize(draw_length(read.count, random), spare);
+            if !read.has_any_length() {
+                let spare = random.next() >> (64 - 8 * read.width);
+                slice.resize(draw_length(read.count, random), spare);
+            }
         }
     }
 
@@ -221,7 +231,8 @@ fn draw_length(count: usize, random: &mut Random) -> usize {
 }
 
 fn reply(case: &Case, call: impl Fn(&Case, &mut Memories) -> u32) -> Reply {
-    let mut memories = [Memory::filled(case.fill), Memory::filled(!case.fill)];
+    let (one, other) = (case.fill, case.fill.rotate_left(32));
+    let mut memories = [one, !one, other, !other].map(Memory::filled);
     let number = call(case, &mut memories);
     Reply { number, memories }
 }

@@ -55,12 +55,12 @@ const fn out(width: usize, count: usize) -> Out {
 pub const FUNCTIONS: [Function; 4] = [
     Function {
         name: "select_table",
-        share: 5,
+        share: 4,
         arguments: HEAD,
         ins: &[],
         outs: &[out(4, 1)],
         draw: draw_any_rates,
-        library: |case, [out, _]| {
+        library: |case, [out, ..]| {
             call_with_head!(
                 folgrist_select_table,
                 case.numbers,
@@ -68,7 +68,7 @@ pub const FUNCTIONS: [Function; 4] = [
                 case.lengths[0]
             )
         },
-        rust: |case, [out, _]| {
+        rust: |case, [out, ..]| {
             let table = select_table(&header_of(&case.numbers)).map(number_of);
             out.put(4, 0, table.unwrap_or(0));
             u32::from(table.is_none())
@@ -76,12 +76,12 @@ pub const FUNCTIONS: [Function; 4] = [
     },
     Function {
         name: "frame_size_bytes",
-        share: 5,
+        share: 4,
         arguments: HEAD,
         ins: &[],
         outs: &[out(8, 1)],
         draw: draw_any_rates,
-        library: |case, [out, _]| {
+        library: |case, [out, ..]| {
             call_with_head!(
                 folgrist_frame_size_bytes,
                 case.numbers,
@@ -89,7 +89,7 @@ pub const FUNCTIONS: [Function; 4] = [
                 case.lengths[0]
             )
         },
-        rust: |case, [out, _]| {
+        rust: |case, [out, ..]| {
             let halts = case.numbers[SAMPLE_RATE] == 0;
             let bytes = if halts {
                 0
@@ -102,12 +102,12 @@ pub const FUNCTIONS: [Function; 4] = [
     },
     Function {
         name: "fixed_bit_budget",
-        share: 6,
+        share: 5,
         arguments: HEAD,
         ins: &[],
         outs: &[out(4, 8)],
         draw: draw_head,
-        library: |case, [out, _]| {
+        library: |case, [out, ..]| {
             call_with_head!(
                 folgrist_fixed_bit_budget,
                 case.numbers,
@@ -119,12 +119,12 @@ pub const FUNCTIONS: [Function; 4] = [
     },
     Function {
         name: "available_data_bits",
-        share: 6,
+        share: 5,
         arguments: &HEAD_AND_BANC,
         ins: &[],
         outs: &[out(8, 1)],
         draw: draw_offer_case,
-        library: |case, [out, _]| {
+        library: |case, [out, ..]| {
             let banc = case.numbers[BANC] as u32;
             call_with_head!(
                 folgrist_available_data_bits,
@@ -168,7 +168,7 @@ pub fn frame_bytes(head: &[u64]) -> u64 {
     144 * head[BIT_RATE] / head[SAMPLE_RATE] + head[PADDING]
 }
 
-fn answer_fixed(case: &Case, [out, _]: &mut Memories) -> u32 {
+fn answer_fixed(case: &Case, [out, ..]: &mut Memories) -> u32 {
     let number = refusal(&case.numbers);
     let answers = if number == 0 {
         answer_budget(&case.numbers)
@@ -181,7 +181,7 @@ fn answer_fixed(case: &Case, [out, _]: &mut Memories) -> u32 {
     number
 }
 
-fn answer_available(case: &Case, [out, _]: &mut Memories) -> u32 {
+fn answer_available(case: &Case, [out, ..]: &mut Memories) -> u32 {
     let number = refusal(&case.numbers);
     let bits = match number {
         0 => available_data_bits(&header_of(&case.numbers), case.numbers[BANC] as u32),

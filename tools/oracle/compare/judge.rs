@@ -3,8 +3,8 @@
 use crate::allocation_functions::{self, ALLOCATE};
 use crate::case::{Case, Function, Reply};
 use crate::{
-    header_functions, rules, sample_functions, scalefactor_functions, side_info_functions,
-    table_functions,
+    header_functions, read_functions, rules, sample_functions, scalefactor_functions,
+    side_info_functions, table_functions,
 };
 
 /// Every function of the library.
@@ -16,6 +16,7 @@ pub fn functions() -> Vec<Function> {
     functions.extend(scalefactor_functions::FUNCTIONS);
     functions.extend(sample_functions::FUNCTIONS);
     functions.extend(side_info_functions::FUNCTIONS);
+    functions.extend(read_functions::FUNCTIONS);
     functions
 }
 

@@ -34,6 +34,11 @@ with_head! {
         index: *const u8, index_count: usize,
         bytes: *mut u8, bytes_length: usize, out: *mut u32, length: usize
     );
+    folgrist_read_side_info(
+        bytes: *const u8, bytes_count: usize, steps: *mut u32, steps_length: usize,
+        scfsi: *mut u8, scfsi_length: usize, index: *mut u8, index_length: usize,
+        out: *mut u32, length: usize
+    );
 }
 
 unsafe extern "C" {

@@ -22,7 +22,7 @@ pub struct Held {
 impl Held {
     /// Nothing where the steps fit no layout.
     pub fn read(case: &Case, reply: &Reply) -> Result<Held, &'static str> {
-        let [steps, out] = &reply.memories;
+        let [steps, out, ..] = &reply.memories;
         let steps: [u32; SLOTS] = std::array::from_fn(|slot| steps.get(4, slot) as u32);
         let layout = layout_of(&case.numbers).ok_or(PART_2)?;
         check_layout(&layout.fields, &steps)?;
@@ -72,7 +72,7 @@ impl Held {
         })
     }
 
-    fn reads_nan(&self, ratios: &[u64]) -> bool {
+    pub fn reads_nan(&self, ratios: &[u64]) -> bool {
         self.layout.fields.iter().any(|field| {
             let nan = |slot: usize| f64::from_bits(ratios[slot]).is_nan();
             nan(field.slot) || field.serves == 2 && nan(field.slot + SUBBANDS)

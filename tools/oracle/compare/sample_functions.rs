@@ -28,11 +28,11 @@ pub const FUNCTIONS: [Function; 2] = [
             count: 1,
         }],
         draw: |case, random| draw_samples(case, 1, random),
-        library: |case, [out, _]| unsafe {
+        library: |case, [out, ..]| unsafe {
             let (steps, sample) = (case.numbers[0] as u32, f64::from_bits(case.numbers[1]));
             folgrist_quantize_sample(steps, sample, out.pointer(), case.lengths[0])
         },
-        rust: |case, [out, _]| {
+        rust: |case, [out, ..]| {
             let class = class_of_quantization(case.numbers[0] as u32);
             let sample = f64::from_bits(case.numbers[1]);
             let code = class.map_or(0, |class| quantize_sample(&class, sample));
@@ -51,12 +51,12 @@ pub const FUNCTIONS: [Function; 2] = [
             count: 5,
         }],
         draw: |case, random| draw_samples(case, 3, random),
-        library: |case, [out, _]| unsafe {
+        library: |case, [out, ..]| unsafe {
             let steps = case.numbers[0] as u32;
             let [a, b, c] = [1, 2, 3].map(|at| f64::from_bits(case.numbers[at]));
             folgrist_write_triplet(steps, a, b, c, out.pointer(), case.lengths[0])
         },
-        rust: |case, [out, _]| {
+        rust: |case, [out, ..]| {
             let answers = answer_triplet(&case.numbers);
             (0..5).for_each(|at| out.put(4, at, answers[1 + at]));
             answers[0] as u32

@@ -30,7 +30,7 @@ const fn byte(name: &'static str) -> Argument {
 pub const FUNCTIONS: [Function; 4] = [
     Function {
         name: "pick_scalefactor_index",
-        share: 5,
+        share: 4,
         arguments: &[Argument {
             name: "max_abs",
             sort: Sort::Double,
@@ -45,17 +45,17 @@ pub const FUNCTIONS: [Function; 4] = [
     },
     Function {
         name: "extract_scalefactor_index",
-        share: 5,
+        share: 4,
         arguments: &[],
         ins: &[doubles(GRANULE_LEN)],
         outs: &[bytes(1)],
         draw: |case, random| draw_granule(&mut case.ins[0], random),
-        library: |case, [out, _]| unsafe {
+        library: |case, [out, ..]| unsafe {
             let samples = case.ins[0].as_ptr().cast();
             let count = case.ins[0].len();
             folgrist_extract_scalefactor_index(samples, count, out.pointer(), case.lengths[0])
         },
-        rust: |case, [out, _]| {
+        rust: |case, [out, ..]| {
             let samples = std::array::from_fn(|at| f64::from_bits(case.ins[0][at]));
             out.put(1, 0, extract_scalefactor_index(&samples).into());
             0
@@ -71,12 +71,12 @@ pub const FUNCTIONS: [Function; 4] = [
         ins: &[doubles(FRAME_LEN)],
         outs: &[bytes(96)],
         draw: draw_frame,
-        library: |case, [out, _]| unsafe {
+        library: |case, [out, ..]| unsafe {
             let (samples, limit) = (case.ins[0].as_ptr().cast(), case.numbers[0]);
             let count = case.ins[0].len();
             folgrist_compute_scalefactors(samples, count, limit, out.pointer(), case.lengths[0])
         },
-        rust: |case, [out, _]| {
+        rust: |case, [out, ..]| {
             let samples = frame_of(&case.ins[0]);
             let indices = compute_scalefactors(&samples, case.numbers[0] as usize);
             for (at, &index) in indices.iter().flatten().enumerate() {
@@ -87,16 +87,16 @@ pub const FUNCTIONS: [Function; 4] = [
     },
     Function {
         name: "select_scfsi",
-        share: 5,
+        share: 4,
         arguments: &[byte("a"), byte("b"), byte("c")],
         ins: &[],
         outs: &[bytes(9)],
         draw: draw_indices,
-        library: |case, [out, _]| unsafe {
+        library: |case, [out, ..]| unsafe {
             let [a, b, c, ..] = case.numbers.map(|number| number as u8);
             folgrist_select_scfsi(a, b, c, out.pointer(), case.lengths[0])
         },
-        rust: |case, [out, _]| {
+        rust: |case, [out, ..]| {
             let [a, b, c, ..] = case.numbers.map(|number| number as u8);
             for (at, value) in selection([a, b, c]).into_iter().enumerate() {
                 out.put(1, at, value);

@@ -8,6 +8,9 @@ const BIT_RATES: [u64; 8] = [
 ];
 const SAMPLE_RATES: [u64; 7] = [48_000, 44_100, 32_000, 24_000, 22_050, 16_000, 0];
 
+/// More bytes than are read of a slice that may have any length.
+const ROOM: usize = 200;
+
 /// Enough for any input of the library.
 const MOST_TRIES: usize = 200_000;
 
@@ -42,8 +45,29 @@ impl Shrinking<'_> {
             }
         }
         for (at, read) in function.ins.iter().enumerate() {
-            if self.best.ins[at].len() != read.count {
+            if !read.has_any_length() && self.best.ins[at].len() != read.count {
                 changed |= self.attempt(|case| case.ins[at].resize(read.count, 0));
+            }
+        }
+        changed
+    }
+
+    /// Puts zeros behind a slice of any length: then its end is in the way of nothing.
+    fn lengthen(&mut self, slice: usize) {
+        if self.best.ins[slice].len() < ROOM {
+            self.attempt(|case| case.ins[slice].resize(ROOM, 0));
+        }
+    }
+
+    /// Takes ever smaller parts off the end of a slice of any length.
+    fn shorten(&mut self, slice: usize) -> bool {
+        let (mut changed, mut part) = (false, self.best.ins[slice].len());
+        while part > 0 {
+            let kept = self.best.ins[slice].len().checked_sub(part);
+            if kept.is_some_and(|kept| self.attempt(|case| case.ins[slice].truncate(kept))) {
+                changed = true;
+            } else {
+                part /= 2;
             }
         }
         changed
@@ -96,6 +120,11 @@ pub fn shrink(function: &Function, case: Case, stays: &dyn Fn(&Case) -> bool) ->
         stays,
         tries: 0,
     };
+    for (slice, read) in function.ins.iter().enumerate() {
+        if read.has_any_length() {
+            shrinking.lengthen(slice);
+        }
+    }
     loop {
         let mut changed = shrinking.lengths(function);
         for (at, argument) in function.arguments.iter().enumerate() {
@@ -103,6 +132,7 @@ pub fn shrink(function: &Function, case: Case, stays: &dyn Fn(&Case) -> bool) ->
         }
         for (slice, read) in function.ins.iter().enumerate() {
             changed |= shrinking.elements(slice, read.sort);
+            changed |= read.has_any_length() && shrinking.shorten(slice);
         }
         if !changed {
             return shrinking.best;

@@ -30,31 +30,43 @@ fn slices_of(record: &Record) -> Slices {
     }
 }
 
-/// A row for each header: records as an encoder makes them, then any.
 pub fn time_side_info() -> Vec<Row> {
+    by_records(time_records)
+}
+
+/// A row for each header: records as an encoder makes them, then any.
+pub fn by_records(time: fn(&Head, &[Record]) -> Times) -> Vec<Row> {
     let row = |(label, head): &(&str, Head)| Row {
         label: label.to_string(),
         sets: [encoded_records(head), any_records(head)]
             .iter()
-            .map(|records| time_records(head, records))
+            .map(|records| time(head, records))
             .collect(),
     };
     SIDE_INFO_HEADS.iter().map(row).collect()
 }
 
-/// The header and the records of the Rust that is timed: it reads them from what the other wrote.
-fn read_back(head: &Head, records: &[Record]) -> (FrameHeader, Vec<AudioData>) {
+/// The header of the Rust that is timed, and the bytes of each record, which the other wrote.
+pub fn written_bytes(head: &Head, records: &[Record]) -> (FrameHeader, Vec<Vec<u8>>) {
     let bytes = header_of(head)
         .emit_bytes()
         .expect("a header of the standards");
     let header = FrameHeader::parse(&bytes).expect("the same header");
     let budget = budget_of(head).expect("a header that is served");
-    let data = |record: &Record| {
-        let writer =
-            written(head, &budget, record).unwrap_or_else(|number| panic!("refused: {number}"));
-        parse_audio_data(&header, &mut BitReader::new(&writer.bytes())).expect("what was written")
+    let bytes = |record: &Record| match written(head, &budget, record) {
+        Ok(writer) => writer.bytes(),
+        Err(number) => panic!("refused: {number}"),
     };
-    let records = records.iter().map(data).collect();
+    (header, records.iter().map(bytes).collect())
+}
+
+/// The same header, and the records read from these bytes.
+fn read_back(head: &Head, records: &[Record]) -> (FrameHeader, Vec<AudioData>) {
+    let (header, bytes) = written_bytes(head, records);
+    let data = |bytes: &Vec<u8>| {
+        parse_audio_data(&header, &mut BitReader::new(bytes)).expect("what was written")
+    };
+    let records = bytes.iter().map(data).collect();
     (header, records)
 }
 

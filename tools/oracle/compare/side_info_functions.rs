@@ -42,7 +42,7 @@ pub const FUNCTIONS: [Function; 1] = [Function {
         },
     ],
     draw: draw_side_info,
-    library: |case, [bytes, out]| {
+    library: |case, [bytes, out, ..]| {
         let steps: Vec<u32> = case.ins[0].iter().map(|&count| count as u32).collect();
         let [scfsi, index] = [1, 2].map(|at| bytes_of(&case.ins[at]));
         call_with_head!(
@@ -63,7 +63,7 @@ pub const FUNCTIONS: [Function; 1] = [Function {
     rust: answer_side_info,
 }];
 
-fn bytes_of(numbers: &[u64]) -> Vec<u8> {
+pub fn bytes_of(numbers: &[u64]) -> Vec<u8> {
     numbers.iter().map(|&number| number as u8).collect()
 }
 
@@ -77,12 +77,16 @@ pub fn record_of(case: &Case) -> Record {
 }
 
 /// Mostly a header that has a layout.
-fn draw_side_info(case: &mut Case, random: &mut Random) {
+pub fn draw_side_head(case: &mut Case, random: &mut Random) {
     if random.one_in(8) {
         draw_head(case, random);
     } else {
         case.numbers[..7].copy_from_slice(&draw_layout(random));
     }
+}
+
+fn draw_side_info(case: &mut Case, random: &mut Random) {
+    draw_side_head(case, random);
     let record = draw_record(&case.numbers[..7], random);
     case.ins[0].extend(record.steps);
     case.ins[1].extend(record.scfsi);
@@ -90,7 +94,7 @@ fn draw_side_info(case: &mut Case, random: &mut Random) {
 }
 
 /// The bits are the Rust's calls, packed by the stand-in.
-fn answer_side_info(case: &Case, [bytes, out]: &mut Memories) -> u32 {
+fn answer_side_info(case: &Case, [bytes, out, ..]: &mut Memories) -> u32 {
     (0..BYTES).for_each(|at| bytes.put(1, at, 0));
     out.put(4, 0, 0);
     let number = refusal(&case.numbers);

@@ -37,16 +37,16 @@ const fn out(count: usize) -> Out {
 pub const FUNCTIONS: [Function; 6] = [
     Function {
         name: "table_limits",
-        share: 3,
+        share: 2,
         arguments: &[TABLE, whole("sb")],
         ins: &[],
         outs: &[out(2)],
         draw: draw_place,
-        library: |case, [out, _]| unsafe {
+        library: |case, [out, ..]| unsafe {
             let [table, sb, ..] = case.numbers;
             folgrist_table_limits(table as u8, sb, out.pointer(), case.lengths[0])
         },
-        rust: |case, [out, _]| {
+        rust: |case, [out, ..]| {
             let table = table_of(case.numbers[0]);
             out.put(4, 0, table.sblimit() as u64);
             out.put(4, 1, table.nbal(case.numbers[1] as usize).into());
@@ -60,7 +60,7 @@ pub const FUNCTIONS: [Function; 6] = [
         ins: &[],
         outs: &[out(1)],
         draw: draw_index,
-        library: |case, [out, _]| unsafe {
+        library: |case, [out, ..]| unsafe {
             let [table, sb, index, ..] = case.numbers;
             folgrist_nb_steps(
                 table as u8,
@@ -85,7 +85,7 @@ pub const FUNCTIONS: [Function; 6] = [
         ins: &[],
         outs: &[out(1)],
         draw: draw_row_steps,
-        library: |case, [out, _]| unsafe {
+        library: |case, [out, ..]| unsafe {
             let [table, sb, steps, ..] = case.numbers;
             folgrist_allocation_index(
                 table as u8,
@@ -117,8 +117,8 @@ pub const FUNCTIONS: [Function; 6] = [
             out(4),
         ],
         draw: |case, random| case.numbers[0] = draw_steps(random),
-        library: |case, [cd, out]| unsafe {
-            let [cd_length, length] = case.lengths;
+        library: |case, [cd, out, ..]| unsafe {
+            let [cd_length, length, ..] = case.lengths;
             let steps = case.numbers[0] as u32;
             folgrist_class_of_quantization(steps, cd.pointer(), cd_length, out.pointer(), length)
         },
@@ -126,7 +126,7 @@ pub const FUNCTIONS: [Function; 6] = [
     },
     Function {
         name: "sample_bits_for",
-        share: 3,
+        share: 2,
         arguments: &[STEPS],
         ins: &[],
         outs: &[],
@@ -145,10 +145,10 @@ pub const FUNCTIONS: [Function; 6] = [
             count: 1,
         }],
         draw: |case, random| case.numbers[0] = draw_listed(random),
-        library: |case, [out, _]| unsafe {
+        library: |case, [out, ..]| unsafe {
             folgrist_snr_db(case.numbers[0] as u32, out.pointer(), case.lengths[0])
         },
-        rust: |case, [out, _]| {
+        rust: |case, [out, ..]| {
             let ratio = snr_db(case.numbers[0] as u32);
             out.put(8, 0, ratio.unwrap_or(0.0).to_bits());
             if ratio.is_some() { 0 } else { NO_CLASS }
@@ -171,7 +171,7 @@ const FAR: [u64; 9] = [
     u64::MAX,
 ];
 
-fn put_found(value: Option<u32>, [out, _]: &mut Memories) -> u32 {
+fn put_found(value: Option<u32>, [out, ..]: &mut Memories) -> u32 {
     match value {
         None => NOTHING_THERE,
         Some(value) => {
@@ -181,7 +181,7 @@ fn put_found(value: Option<u32>, [out, _]: &mut Memories) -> u32 {
     }
 }
 
-fn answer_class(case: &Case, [cd, out]: &mut Memories) -> u32 {
+fn answer_class(case: &Case, [cd, out, ..]: &mut Memories) -> u32 {
     let class = class_of_quantization(case.numbers[0] as u32);
     let values = class.map_or([0; 6], |class| {
         [

@@ -4,12 +4,12 @@ use mathlib.Core.Bool.{Bool, true, false, _||_}
 use lib.Dec.{ltb}
 use lib.ListN.{length}
 use borrow.Author.Needs.{needs}
-use Rattle.c_answers.proofs.AnswerLaws.{too-short, no-meaning, a-meaning, refused-by}
+use Rattle.c_answers.proofs.AnswerLaws.{too-short, no-meaning, a-meaning, refused-by, replied}
 use Rattle.c_answers.specs.Arguments.{headerNumbered, headerFrom}
 use Rattle.side_info_writer.specs.Written.{writtenOf}
 use Rattle.c_side_info.specs.Arguments.{shortRecord}
 use Rattle.c_side_info.specs.Replies.{bytesIn, bitsIn, bytesWritten, bitsWritten}
-use Rattle.c_side_info.proofs.RecordLaws.{Long, all-long, no-header, no-record, a-record, of-record, replied}
+use Rattle.c_side_info.proofs.RecordLaws.{Long, all-long, no-header, no-record, a-record, of-record}
 use Rattle.c_side_info.proofs.write_side_info.Statement.{statement}
 use Rattle.c_side_info.proofs.write_side_info.Tie as tie
 

@@ -7,7 +7,7 @@ use native.Mathlib.Omega.{arith}
 use lib.ListN.{length, drop, drop-of-length-le}
 use Rattle.plan_text.specs.Bytes.{pieces}
 use Rattle.plan_text.proofs.ByteLaws.{pieces-at}
-use Rattle.plan_ratios.specs.Tokens.{endsLine}
+use Rattle.plan_text.specs.Lines.{endsLine}
 use Rattle.plan_ratios.proofs.count_lines.Statement.{statement}
 use Rattle.plan_ratios.proofs.count_lines.Tie as tie
 

@@ -1,5 +1,6 @@
 -- `planner::plan_line` meets its contract.
-use Rattle.planner.proofs.PlanLaws.{moved, words-too-long, input-too-long, read}
+use Rattle.text_line.proofs.PageLaws.{moved}
+use Rattle.planner.proofs.PlanLaws.{words-too-long, input-too-long, read}
 use borrow.Author.Needs.{needs}
 use Rattle.planner.proofs.plan_line.Statement.{statement}
 use Rattle.planner.proofs.plan_line.Tie as tie

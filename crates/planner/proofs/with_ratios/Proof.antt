@@ -1,7 +1,8 @@
 -- `planner::with_ratios` meets its contract.
 use mathlib.Core.Path.{refl}
 use Rattle.plan_ratios.specs.declared.RatiosAnswer.the-variants as Ratio
-use Rattle.planner.proofs.PlanLaws.{moved, good-ratios, bad-ratios}
+use Rattle.text_line.proofs.PageLaws.{moved}
+use Rattle.planner.proofs.PlanLaws.{good-ratios, bad-ratios}
 use borrow.Author.Needs.{needs}
 use Rattle.planner.proofs.with_ratios.Statement.{statement}
 use Rattle.planner.proofs.with_ratios.Tie as tie

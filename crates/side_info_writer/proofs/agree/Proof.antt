@@ -1,5 +1,4 @@
 -- `side_info_writer::agree` meets its contract.
-use borrow.Author.Needs.{needs}
 use Rattle.side_info_writer.proofs.agree.Statement.{statement}
 use Rattle.side_info_writer.proofs.agree.Tie as tie
 

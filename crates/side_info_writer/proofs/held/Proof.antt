@@ -1,5 +1,4 @@
 -- `side_info_writer::held` meets its contract.
-use borrow.Author.Needs.{needs}
 use borrow.Author.Tests.{eq-eqb, ne-eqb}
 use Rattle.side_info_writer.proofs.held.Statement.{statement}
 use Rattle.side_info_writer.proofs.held.Tie as tie

@@ -1,11 +1,11 @@
 -- `side_info_writer::indices_tabled` meets its contract. The loop's invariant: question 8 was answered yes of the slots so far.
-use Prim.Native.Nat.{_-_, _≤_, _<_}
-use mathlib.Core.Path.{_≡_, sym, ap, _∙_}
+use Prim.Native.Nat.{_-_, _≤_}
+use mathlib.Core.Path.{sym, ap, _∙_}
 use mathlib.Core.Bool.{not, Bool·not-not}
-use lib.ListN.{length, take}
+use lib.ListN.{take}
 use borrow.Author.Needs.{needs}
-use Rattle.side_info_writer.specs.OnTheWay.{listed}
-use Rattle.side_info_writer.proofs.ActiveLaws.{listed-at, listed-here, listed-over}
+use Rattle.active_slots.specs.Active.{listed}
+use Rattle.active_slots.proofs.ActiveLaws.{listed-at, listed-here, listed-over}
 use Rattle.side_info_writer.proofs.AskedLaws.{TabledTo, none-tabled, one-tabled, one-not, all-tabled}
 use Rattle.side_info_writer.proofs.indices_tabled.Statement.{statement}
 use Rattle.side_info_writer.proofs.indices_tabled.Tie as tie

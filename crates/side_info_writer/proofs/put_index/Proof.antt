@@ -1,13 +1,7 @@
 -- `side_info_writer::put_index` meets its contract.
-use mathlib.Core.Path.{_≡_}
-use Prim.Native.Nat.{_+_}
 use native.Mathlib.Omega.{arith}
 use lib.Dec.{lit≤}
-use lib.ListN.{length}
-use Rattle.bit_string.specs.Bits.{bitsOf}
 use Rattle.bit_string.proofs.BitLaws.{length-bits}
-use borrow.Author.Needs.{needs}
-use Rattle.side_info_writer.specs.OnTheWay.{whereSent}
 use Rattle.side_info_writer.proofs.PenLaws.{wrote-nothing}
 use Rattle.side_info_writer.proofs.put_index.Statement.{statement}
 use Rattle.side_info_writer.proofs.put_index.Tie as tie

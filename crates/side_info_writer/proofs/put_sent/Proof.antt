@@ -1,7 +1,5 @@
 -- `side_info_writer::put_sent` meets its contract: the three indices, of which the second and the third may not be sent.
-use mathlib.Core.List.{flatMap}
-use Rattle.audio_data.specs.Scfsi.{three, sent}
-use Rattle.bit_string.specs.Bits.{bitsOf}
+use Rattle.audio_data.specs.Scfsi.{three}
 use borrow.Author.Needs.{needs}
 use Rattle.side_info_writer.proofs.PartLaws.{tabled-each, first-fits, second-fits, third-fits, three-written}
 use Rattle.side_info_writer.proofs.put_sent.Statement.{statement}

@@ -2,7 +2,7 @@
 -- what the fields from `f` on send make the whole.
 use Prim.Native.Nat.{ℕ, _-_, _≤_, _<_}
 use native.Mathlib.Omega.{arith}
-use mathlib.Core.Path.{_≡_, sym, ap, _∙_}
+use mathlib.Core.Path.{sym, ap, _∙_}
 use mathlib.Core.List.{flatMap}
 use lib.ListN.{length, drop}
 use Rattle.bitalloc.proofs.RowLaws.{sblimit-small}

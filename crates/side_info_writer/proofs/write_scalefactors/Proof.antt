@@ -1,12 +1,12 @@
 -- `side_info_writer::write_scalefactors` meets its contract. The loop's invariant: what is written and what the slots from `k` on send make the whole.
-use Prim.Native.Nat.{ℕ, _-_, _≤_, _<_}
+use Prim.Native.Nat.{ℕ, _-_, _≤_}
 use mathlib.Core.Path.{ap, _∙_}
 use mathlib.Core.List.{[], flatMap}
 use lib.ListN.{take, drop}
 use Rattle.side_info.specs.SideInfo.{sideInfo, scalefactorBits, scalefactorAsked}
 use borrow.Author.Needs.{needs}
-use Rattle.side_info_writer.specs.OnTheWay.{listed}
-use Rattle.side_info_writer.proofs.ActiveLaws.{listed-at, listed-here, listed-over}
+use Rattle.active_slots.specs.Active.{listed}
+use Rattle.active_slots.proofs.ActiveLaws.{listed-at, listed-here, listed-over}
 use Rattle.side_info_writer.proofs.PartLaws.{Partly, none-yet, part-fits, part-written, parts-written}
 use Rattle.side_info_writer.proofs.write_scalefactors.Statement.{statement}
 use Rattle.side_info_writer.proofs.write_scalefactors.Tie as tie

@@ -1,6 +1,5 @@
 -- `side_info_writer::write_scfsi` meets its contract. The loop's invariant: what is written and what the slots from `k` on send make the whole.
-use Prim.Native.Nat.{_-_, _≤_, _<_}
-use mathlib.Core.Path.{_≡_, sym, ap, _∙_}
+use Prim.Native.Nat.{_-_, _≤_}
 use mathlib.Core.List.{[], flatMap}
 use native.Mathlib.Omega.{arith}
 use lib.Dec.{lit≤}
@@ -9,8 +8,8 @@ use Rattle.audio_data.specs.Scfsi.{codeOf}
 use Rattle.bit_string.proofs.BitLaws.{length-bits}
 use Rattle.side_info.specs.SideInfo.{sideInfo, scfsiIn, scfsiBits}
 use borrow.Author.Needs.{needs}
-use Rattle.side_info_writer.specs.OnTheWay.{listed}
-use Rattle.side_info_writer.proofs.ActiveLaws.{listed-at, listed-here, listed-over}
+use Rattle.active_slots.specs.Active.{listed}
+use Rattle.active_slots.proofs.ActiveLaws.{listed-at, listed-here, listed-over}
 use Rattle.side_info_writer.proofs.PartLaws.{Partly, none-yet, part-fits, part-written, parts-written}
 use Rattle.side_info_writer.proofs.write_scfsi.Statement.{statement}
 use Rattle.side_info_writer.proofs.write_scfsi.Tie as tie

@@ -1,8 +1,8 @@
 -- `side_info_writer::write_slots` meets its contract: behind the allocation the two other parts, and the last byte.
 use native.Mathlib.Omega.{arith}
 use borrow.Author.Needs.{needs}
-use Rattle.side_info_writer.specs.OnTheWay.{listed}
-use Rattle.side_info_writer.proofs.ActiveLaws.{listed-few}
+use Rattle.active_slots.specs.Active.{listed}
+use Rattle.active_slots.proofs.ActiveLaws.{listed-few}
 use Rattle.side_info_writer.proofs.WholeLaws.{scfsi-fit, indices-fit, end-fits, behind-written}
 use Rattle.side_info_writer.proofs.write_slots.Statement.{statement}
 use Rattle.side_info_writer.proofs.write_slots.Tie as tie

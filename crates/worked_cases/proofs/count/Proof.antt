@@ -26,9 +26,10 @@ use Rattle.allocation_rounds.proofs.OnTheWay.{end-untouched}
 use Rattle.allocation_run.specs.Entries.{rulesOf, entriesOf}
 use Rattle.allocation_run.specs.Steps.{stepsOf}
 use Rattle.encoder_bit_allocator.specs.Allocation.{worstCase, allocationOf}
-use Rattle.bit_string.specs.Bits.{bitsOf}
+use Rattle.bit_string.specs.Bits.{bitsOf, valueOf, unpacked}
 use Rattle.side_info.specs.SideInfo.{activeSlots, recordAsked}
 use Rattle.side_info_writer.specs.Written.{writtenOf}
+use Rattle.side_info_reading.specs.Read.{readOf}
 use Rattle.worked_cases.specs.Cases.{cases, any, allocation, allocated, mono, idle, answerTo, Hold}
 use Rattle.worked_cases.proofs.count.Statement.{statement}
 use Rattle.worked_cases.proofs.count.Tie as tie
@@ -63,7 +64,7 @@ unfolding cases Hold answerTo oneOf onLadder ladder lsfLadder tableOf nbalOf lay
 first-case smr = refl
 
 other-cases : Hold (drop 2 cases)
-unfolding cases Hold answerTo writtenOf flatMap bitsOf slotsOf activeSlots indexOf recordAsked headerAsked ended oneOf onLadder ladder lsfLadder tableOf nbalOf rowOf sampleBits snrOf layoutOf fieldsOf budgetOf frameSize filler allocationOf selection scalefactors pickOf le sub
+unfolding cases Hold answerTo writtenOf readOf unpacked valueOf flatMap bitsOf slotsOf activeSlots indexOf recordAsked headerAsked ended oneOf onLadder ladder lsfLadder tableOf nbalOf rowOf sampleBits snrOf layoutOf fieldsOf budgetOf frameSize filler allocationOf selection scalefactors pickOf le sub
 other-cases smr = refl
 
 holds : Hold cases

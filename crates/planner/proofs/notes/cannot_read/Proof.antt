@@ -2,7 +2,8 @@
 use mathlib.Core.Path.{_∙_}
 use Rattle.text_line.proofs.LineLaws.{cut-whole}
 use Rattle.planner.specs.Notes.{cannotReadText}
-use Rattle.planner.proofs.NoteLaws.{after, cannot-read-length}
+use Rattle.word_notes.proofs.NoteLaws.{after}
+use Rattle.planner.proofs.NoteLaws.{cannot-read-length}
 use borrow.Author.Needs.{needs}
 use Rattle.planner.proofs.notes.cannot_read.Statement.{statement}
 use Rattle.planner.proofs.notes.cannot_read.Tie as tie

@@ -2,7 +2,8 @@
 use mathlib.Core.Path.{_∙_}
 use Rattle.text_line.proofs.LineLaws.{behind, cut-whole}
 use Rattle.planner.specs.Notes.{tooFewText}
-use Rattle.planner.proofs.NoteLaws.{after, too-few-length}
+use Rattle.word_notes.proofs.NoteLaws.{after}
+use Rattle.planner.proofs.NoteLaws.{too-few-length}
 use borrow.Author.Needs.{needs}
 use Rattle.planner.proofs.notes.too_few.Statement.{statement}
 use Rattle.planner.proofs.notes.too_few.Tie as tie

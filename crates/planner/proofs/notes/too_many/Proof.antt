@@ -2,7 +2,8 @@
 use mathlib.Core.Path.{_∙_}
 use Rattle.text_line.proofs.LineLaws.{behind, cut-whole}
 use Rattle.planner.specs.Notes.{tooManyText}
-use Rattle.planner.proofs.NoteLaws.{after, too-many-length}
+use Rattle.word_notes.proofs.NoteLaws.{after}
+use Rattle.planner.proofs.NoteLaws.{too-many-length}
 use borrow.Author.Needs.{needs}
 use Rattle.planner.proofs.notes.too_many.Statement.{statement}
 use Rattle.planner.proofs.notes.too_many.Tie as tie

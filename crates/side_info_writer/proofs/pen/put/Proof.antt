@@ -1,14 +1,15 @@
 -- `side_info_writer::pen::put` meets its contract: fewer than eight bits are held, and eight make a byte.
-use mathlib.Core.Path.{refl}
+use mathlib.Core.Path.{refl, _∙_}
 use Prim.Native.Nat.{_+_, _-_}
 use native.Mathlib.Omega.{arith}
 use borrow.Author.Needs.{needs}
-use Rattle.side_info_writer.proofs.PenLaws.{held-small, byte-small, kept, filled}
+use Rattle.bit_fields.proofs.FieldLaws.{upper-is, lower-is}
+use Rattle.side_info_writer.proofs.PenLaws.{side-by-side, byte-small, kept, filled}
 use Rattle.side_info_writer.proofs.pen.put.Statement.{statement}
 use Rattle.side_info_writer.proofs.pen.put.Tie as tie
 
 beside-requires : tie.Need-beside-requires
-beside-requires c κs = (held-small (c .args .pen) (c .pre .0), c .pre .1, c .pre .2)
+beside-requires c κs = search needs
 
 add-count : tie.Need-add-count
 add-count c = search needs
@@ -17,7 +18,7 @@ returns : tie.Need-returns
 returns c =
     let held = c .before .before in
     let start = held .before in
-    kept (start .args .pen) (start .pre .0) (start .args .width) (start .args .value) _ (start .pre .1) (start .pre .2) (held .beside .ensures) _ (c .if1 .taken)
+    kept (start .args .pen) (start .pre .0) (start .args .width) (start .args .value) _ (start .pre .1) (start .pre .2) (held .beside .ensures ∙ side-by-side (start .args .pen) (start .pre .0) (start .args .value) (start .args .width) (start .pre .1) (start .pre .2)) _ (c .if1 .taken)
 
 above-requires : tie.Need-above-requires
 above-requires c κs = search needs
@@ -28,8 +29,8 @@ cast-bytes c =
     let start = held .before in
     let rest = start .args .pen .count + start .args .width - 8 in
     record {
-      fits = rw (c .above .ensures)
-        (byte-small (start .args .pen) (start .pre .0) (start .args .width) (start .args .value) _ (start .pre .1) (start .pre .2) (held .beside .ensures) rest
+      fits = rw (c .above .ensures ∙ upper-is _ rest (omega arith))
+        (byte-small (start .args .pen) (start .pre .0) (start .args .width) (start .args .value) _ (start .pre .1) (start .pre .2) (held .beside .ensures ∙ side-by-side (start .args .pen) (start .pre .0) (start .args .value) (start .args .width) (start .pre .1) (start .pre .2)) rest
         (omega arith))
     }
 
@@ -47,8 +48,8 @@ returns-2 c =
     let else = c .before .before in
     let held = else .before .before in
     let start = held .before in
-    filled (start .args .pen) (start .pre .0) (start .args .width) (start .args .value) _ (start .pre .1) (start .pre .2) (held .beside .ensures)
-    _ _ _ _ (else .if1 .left) refl (start .pre .3) (c .before .above .ensures) (c .below .ensures)
+    filled (start .args .pen) (start .pre .0) (start .args .width) (start .args .value) _ (start .pre .1) (start .pre .2) (held .beside .ensures ∙ side-by-side (start .args .pen) (start .pre .0) (start .args .value) (start .args .width) (start .pre .1) (start .pre .2))
+    _ _ _ _ (else .if1 .left) refl (start .pre .3) (c .before .above .ensures ∙ upper-is _ _ (omega arith)) (c .below .ensures ∙ lower-is _ _ (omega arith))
 
 pub put-spec : {M : Type 1} → statement M
 put-spec =

@@ -1,0 +1,3 @@
+pub mod DigitLaws
+pub mod WalkLaws
+pub mod Examples

@@ -1,0 +1,4 @@
+pub mod CursorLaws
+pub mod SectionLaws
+pub mod ThreeLaws
+pub mod AnswerLaws

@@ -1,0 +1,7 @@
+pub mod LaidLaws
+pub mod TakenLaws
+pub mod SlotLaws
+pub mod PartLaws
+pub mod BackLaws
+pub mod ForthLaws
+pub mod ReadLaws

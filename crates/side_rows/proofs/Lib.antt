@@ -1,0 +1,3 @@
+pub mod RowLaws
+pub mod NearestLaws
+pub mod Examples

@@ -1,0 +1,2 @@
+pub mod NoteLaws
+pub mod SideLaws
