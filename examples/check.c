@@ -209,6 +209,16 @@ static struct arguments mono(void)
     return a;
 }
 
+/* The same with 24000 Hz: LSF. */
+static struct arguments low(void)
+{
+    struct arguments a = mono();
+
+    a.lsf = 1;
+    a.sample_rate = 24000;
+    return a;
+}
+
 /* 44100 Hz, stereo, 193000 bit/s: off the ladder, and no table. */
 static struct arguments odd(void)
 {
@@ -553,19 +563,25 @@ static void expect_records_refused(void)
     expect_refused_headers(&write_side_info);
 }
 
-static void check_write_side_info(void)
+/* A scfsi above 3, beside steps that the writer and the checker refuse. */
+static void expect_bad_codes(const struct function *f)
 {
     const struct arguments a = mono();
     size_t slot;
 
-    expect_records_written();
-    expect_records_refused();
     for (slot = 0; slot < 64; slot += 21) {
         record_idle();
         record.scfsi[slot] = 4;
-        record.steps[0] = 4;
-        expect(&write_side_info, &a, FOLGRIST_BAD_ARGUMENT, NULL, NULL);
+        record.steps[0] = record.steps[63] = 4;
+        expect(f, &a, FOLGRIST_BAD_ARGUMENT, NULL, NULL);
     }
+}
+
+static void check_write_side_info(void)
+{
+    expect_records_written();
+    expect_records_refused();
+    expect_bad_codes(&write_side_info);
     record_idle();
     expect_bad_headers(&write_side_info);
     done(write_side_info.name);
@@ -694,13 +710,11 @@ static void record_varied(const struct arguments *a, uint32_t turn)
 /* Records of four frames, and the longest there is. */
 static void expect_records_read_back(void)
 {
-    struct arguments asked[] = {stereo(), joint(), mono(), mono()};
+    const struct arguments asked[] = {stereo(), joint(), mono(), low()};
     uint8_t bytes[174];
     uint32_t turn;
     size_t i, sb;
 
-    asked[3].lsf = 1;
-    asked[3].sample_rate = 24000;
     for (i = 0; i < COUNT(asked); i++)
         for (turn = 0; turn < 4; turn++) {
             record_varied(&asked[i], turn);
@@ -744,6 +758,180 @@ static void check_read_side_info(void)
         expect_bad_headers(&read_side_info);
     }
     done(read_side_info.name);
+}
+
+static uint32_t call_check_record(const struct arguments *a, const size_t *length)
+{
+    return folgrist_check_record(HEADER(a), record.steps, length[READ], record.scfsi, length[READ_2], record.index, length[READ_3], out.words,
+                                 length[OUT]);
+}
+
+static const struct function check_record = {
+    "check_record", {64, 0, 2, 64, 192}, {sizeof(uint32_t), 0, sizeof(uint32_t), 1, 1}, call_check_record};
+
+/* The answer to the record, and its subband and channel. */
+static void expect_place(const struct arguments *a, uint32_t number, uint32_t sb, uint32_t channel)
+{
+    const uint32_t place[] = {sb, channel};
+
+    expect(&check_record, a, number, NULL, place);
+}
+
+static void expect_passed(const struct arguments *a)
+{
+    expect_place(a, FOLGRIST_ACCEPTED, 0, 0);
+}
+
+/* The record with steps in one slot. */
+static void expect_with_steps(const struct arguments *a, size_t slot, uint32_t steps, uint32_t number)
+{
+    const uint32_t of_slot = number != FOLGRIST_ACCEPTED;
+
+    record_idle();
+    record.steps[slot] = steps;
+    expect_place(a, number, of_slot * (slot % 32), of_slot * (number == FOLGRIST_SHARED_STEPS_DIFFER ? 0 : slot / 32));
+}
+
+/* 17 in each channel: from the table's limit to subband 31, and in the channel that mono lacks. 6 from the bound on, whichever channel has the
+ * steps, and always at channel 0. */
+static void expect_steps_checked(void)
+{
+    const struct arguments a = stereo(), b = joint(), c = mono(), d = low();
+    size_t channel;
+
+    for (channel = 0; channel < 64; channel += 32) {
+        expect_with_steps(&a, channel + 29, 3, FOLGRIST_ACCEPTED);
+        expect_with_steps(&a, channel + 30, 3, FOLGRIST_STEPS_NOT_CARRIED);
+        expect_with_steps(&a, channel + 31, UINT32_MAX, FOLGRIST_STEPS_NOT_CARRIED);
+        expect_with_steps(&b, channel + 11, 5, FOLGRIST_ACCEPTED);
+        expect_with_steps(&b, channel + 12, 5, FOLGRIST_SHARED_STEPS_DIFFER);
+        expect_with_steps(&b, channel + 29, 3, FOLGRIST_SHARED_STEPS_DIFFER);
+        expect_with_steps(&b, channel + 30, 3, FOLGRIST_STEPS_NOT_CARRIED);
+        expect_with_steps(&c, channel + 8, 3, FOLGRIST_STEPS_NOT_CARRIED);
+    }
+    expect_with_steps(&c, 7, 3, FOLGRIST_ACCEPTED);
+    expect_with_steps(&c, 32, 15, FOLGRIST_STEPS_NOT_CARRIED);
+    expect_with_steps(&c, 39, 3, FOLGRIST_STEPS_NOT_CARRIED);
+    expect_with_steps(&d, 8, 3, FOLGRIST_ACCEPTED);
+    expect_with_steps(&d, 40, 3, FOLGRIST_STEPS_NOT_CARRIED);
+}
+
+/* 18 in each channel, where it is the slot's own and where it shares its field: by the scfsi's code, of a first index that differs from the
+ * others, of a second and of a third. */
+static void expect_indices_checked(void)
+{
+    static const uint8_t index[3][3] = {{1, 2, 2}, {2, 1, 2}, {2, 2, 1}};
+    static const uint32_t differing[4][3] = {{0, 0, 0}, {18, 18, 0}, {18, 18, 18}, {0, 18, 18}};
+    static const uint32_t subbands[] = {2, 20};
+    const struct arguments a = joint();
+    uint32_t channel, number;
+    uint8_t scfsi;
+    size_t i, sb;
+
+    for (sb = 0; sb < COUNT(subbands); sb++)
+        for (channel = 0; channel < 2; channel++)
+            for (scfsi = 0; scfsi < 4; scfsi++)
+                for (i = 0; i < COUNT(index); i++) {
+                    record_idle();
+                    record.steps[subbands[sb]] = record.steps[32 + subbands[sb]] = 5;
+                    record_slot(32 * channel + subbands[sb], 5, scfsi, index[i][0], index[i][1], index[i][2]);
+                    number = differing[scfsi][i];
+                    expect_place(&a, number, number == 0 ? 0 : subbands[sb], number == 0 ? 0 : channel);
+                }
+}
+
+/* Of two faults the one in the lower subband, of one subband's that of channel 0, of one slot's 6 before 18. */
+static void expect_first_place(void)
+{
+    const struct arguments a = joint(), b = mono();
+
+    record_idle();
+    record.steps[32 + 31] = 3;
+    expect_place(&a, FOLGRIST_STEPS_NOT_CARRIED, 31, 1);
+    record.steps[31] = 3;
+    expect_place(&a, FOLGRIST_STEPS_NOT_CARRIED, 31, 0);
+    record.steps[32 + 30] = 3;
+    expect_place(&a, FOLGRIST_STEPS_NOT_CARRIED, 30, 1);
+    record_slot(20, 5, FOLGRIST_SHARE_ALL, 1, 2, 3);
+    expect_place(&a, FOLGRIST_SHARED_STEPS_DIFFER, 20, 0);
+    record.steps[32 + 20] = 5;
+    expect_place(&a, FOLGRIST_SHARED_INDICES_DIFFER, 20, 0);
+    record.steps[32 + 12] = 5;
+    expect_place(&a, FOLGRIST_SHARED_STEPS_DIFFER, 12, 0);
+    record_slot(32 + 3, 7, FOLGRIST_SHARE_01_THEN_2, 1, 2, 3);
+    expect_place(&a, FOLGRIST_SHARED_INDICES_DIFFER, 3, 1);
+    record_slot(3, 7, FOLGRIST_SHARE_0_THEN_12, 1, 2, 3);
+    expect_place(&a, FOLGRIST_SHARED_INDICES_DIFFER, 3, 0);
+    record_idle();
+    record_slot(1, 15, FOLGRIST_SHARE_ALL, 1, 2, 3);
+    record.steps[32] = 15;
+    expect_place(&b, FOLGRIST_STEPS_NOT_CARRIED, 0, 1);
+    record_slot(0, 15, FOLGRIST_SHARE_ALL, 1, 2, 3);
+    expect_place(&b, FOLGRIST_SHARED_INDICES_DIFFER, 0, 0);
+}
+
+/* What idle slots hold is free. Steps that are not in the row, and indices above 62, are not asked about: the writer refuses them. */
+static void expect_not_asked(void)
+{
+    const struct arguments a = joint(), b = mono();
+    size_t slot;
+
+    record_idle();
+    for (slot = 0; slot < 64; slot++)
+        record_slot(slot, 0, (uint8_t)(slot % 4), 255, 63, 1);
+    expect_passed(&a);
+    expect_passed(&b);
+    record_idle();
+    record.steps[7] = 7;
+    expect_passed(&b);
+    check(check_record.name, "7", write_side_info.call(&b, write_side_info.needed) == FOLGRIST_STEPS_NOT_IN_ROW);
+    record_idle();
+    record_slot(2, 127, FOLGRIST_SHARE_ALL, 63, 63, 63);
+    expect_passed(&b);
+    check(check_record.name, "8", write_side_info.call(&b, write_side_info.needed) == FOLGRIST_INDEX_NOT_TABLED);
+}
+
+/* Records whose indices agree with their scfsi pass, and so does what folgrist_read_side_info reads: here bytes that are all the same, never
+ * with six ones in a row. */
+static void expect_records_passed(void)
+{
+    static const uint8_t bytes[] = {0x00, 0x12, 0x5A, 0x96, 0xDB};
+    const struct arguments asked[] = {stereo(), joint(), mono(), low()};
+    uint32_t turn;
+    size_t i, j;
+
+    for (i = 0; i < COUNT(asked); i++) {
+        for (turn = 0; turn < 4; turn++) {
+            record_varied(&asked[i], turn);
+            expect_passed(&asked[i]);
+        }
+        for (j = 0; j < COUNT(bytes); j++) {
+            memset(source.bytes, bytes[j], sizeof source.bytes);
+            source.count = sizeof source.bytes;
+            check(check_record.name, "what is read", read_side_info.call(&asked[i], read_side_info.needed) == FOLGRIST_ACCEPTED);
+            record_idle();
+            memcpy(record.steps, first.words, 64 * sizeof record.steps[0]);
+            memcpy(record.scfsi, second.bytes, 64);
+            memcpy(record.index, third.bytes, 192);
+            expect_passed(&asked[i]);
+        }
+    }
+}
+
+static void check_check_record(void)
+{
+    expect_records_passed();
+    expect_steps_checked();
+    expect_indices_checked();
+    expect_first_place();
+    expect_not_asked();
+    expect_bad_codes(&check_record);
+    /* the header's questions, with a record that is refused */
+    record_idle();
+    record.steps[63] = 3;
+    expect_refused_headers(&check_record);
+    expect_bad_headers(&check_record);
+    done(check_record.name);
 }
 
 /* ---- the allocation tables ---- */
@@ -1047,6 +1235,7 @@ int main(void)
     check_allocate_bits();
     check_write_side_info();
     check_read_side_info();
+    check_check_record();
     check_table_limits();
     check_nb_steps();
     check_allocation_index();

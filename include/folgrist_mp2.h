@@ -1,6 +1,6 @@
 /*
  * Folgrist: the decisions of an MPEG Audio Layer II encoder (ISO/IEC 11172-3, ISO/IEC 13818-3), from subband samples to sample codes, and
- * the side information of its frames, written and read.
+ * the side information of its frames, written, read and checked.
  *
  * Link with libfolgrist_mp2.a (`rt staticlib folgrist_mp2`). The library keeps no state and uses no heap; it calls nothing but memcpy and
  * memset, and takes some 20 KB of stack. Calls from several threads do not disturb one another.
@@ -16,7 +16,8 @@
  *
  * Order. FOLGRIST_SHORT_SLICE is asked first, then FOLGRIST_BAD_ARGUMENT, then FOLGRIST_NOTHING_THERE; with these three nothing is written.
  * Then FOLGRIST_RATE_OFF_LADDER, and then the others by their numbers; but FOLGRIST_SHARED_STEPS_DIFFER and FOLGRIST_STEPS_NOT_IN_ROW are asked
- * together, field by field in the order of the bitstream, and so are FOLGRIST_SIDE_INFO_CUT and FOLGRIST_RESERVED_INDEX.
+ * together, field by field in the order of the bitstream, and so are FOLGRIST_SIDE_INFO_CUT and FOLGRIST_RESERVED_INDEX. folgrist_check_record asks
+ * FOLGRIST_STEPS_NOT_CARRIED, FOLGRIST_SHARED_STEPS_DIFFER and FOLGRIST_SHARED_INDICES_DIFFER together, slot by slot.
  * With any other number everything is written: beside a number that is not 0 stand zeros, but for what the comment says.
  *
  * Header. Seven arguments, the same in each function that has them:
@@ -46,28 +47,31 @@ extern "C" {
 #endif
 
 /* The version of what is declared here; folgrist_version() has that of the archive. A new function, or a change of a signature or of an
- * answer, raises the minor number. 1.1: FOLGRIST_RATE_OFF_LADDER. 1.2: folgrist_write_side_info. 1.3: folgrist_read_side_info. */
+ * answer, raises the minor number. 1.1: FOLGRIST_RATE_OFF_LADDER. 1.2: folgrist_write_side_info. 1.3: folgrist_read_side_info. 1.4:
+ * folgrist_check_record. */
 #define FOLGRIST_VERSION_MAJOR 1
-#define FOLGRIST_VERSION_MINOR 3
+#define FOLGRIST_VERSION_MINOR 4
 #define FOLGRIST_VERSION_PATCH 0
 
 /* The numbers of answers. */
 enum folgrist_answer {
     FOLGRIST_ACCEPTED = 0,
-    FOLGRIST_NO_TABLE = 1,            /* no allocation table covers the header's rates */
-    FOLGRIST_ZERO_SAMPLE_RATE = 2,    /* the sample rate is 0 */
-    FOLGRIST_FRAME_TOO_LARGE = 3,     /* never given since 1.1: at a rate on the ladder the frame's bits fit 32 bits */
-    FOLGRIST_INSUFFICIENT_FRAME = 4,  /* the fixed bits and the caller's are more than the frame has */
-    FOLGRIST_NO_CLASS = 5,            /* the steps are none of the seventeen classes of quantization */
-    FOLGRIST_SHARED_STEPS_DIFFER = 6, /* an allocation field serves both channels, and their steps differ */
-    FOLGRIST_STEPS_NOT_IN_ROW = 7,    /* the steps of a field are not in its subband's row */
-    FOLGRIST_INDEX_NOT_TABLED = 8,    /* a scalefactor index above 62 where something is allocated */
-    FOLGRIST_SIDE_INFO_CUT = 9,       /* a field of the side information passes the end of the bytes */
-    FOLGRIST_RESERVED_INDEX = 10,     /* the bytes hold scalefactor index 63, which is reserved */
-    FOLGRIST_BAD_ARGUMENT = 14,       /* a flag above 1, a mode or extension above 3, a table above 4, a scfsi above 3 */
-    FOLGRIST_RATE_OFF_LADDER = 16,    /* the bit rate is neither 0 nor on the header's ladder */
-    FOLGRIST_NOTHING_THERE = 97,      /* a place outside the row, or steps that the row does not have */
-    FOLGRIST_SHORT_SLICE = 98         /* an array is shorter than the function asks */
+    FOLGRIST_NO_TABLE = 1,               /* no allocation table covers the header's rates */
+    FOLGRIST_ZERO_SAMPLE_RATE = 2,       /* the sample rate is 0 */
+    FOLGRIST_FRAME_TOO_LARGE = 3,        /* never given since 1.1: at a rate on the ladder the frame's bits fit 32 bits */
+    FOLGRIST_INSUFFICIENT_FRAME = 4,     /* the fixed bits and the caller's are more than the frame has */
+    FOLGRIST_NO_CLASS = 5,               /* the steps are none of the seventeen classes of quantization */
+    FOLGRIST_SHARED_STEPS_DIFFER = 6,    /* an allocation field serves both channels, and their steps differ */
+    FOLGRIST_STEPS_NOT_IN_ROW = 7,       /* the steps of a field are not in its subband's row */
+    FOLGRIST_INDEX_NOT_TABLED = 8,       /* a scalefactor index above 62 where something is allocated */
+    FOLGRIST_SIDE_INFO_CUT = 9,          /* a field of the side information passes the end of the bytes */
+    FOLGRIST_RESERVED_INDEX = 10,        /* the bytes hold scalefactor index 63, which is reserved */
+    FOLGRIST_BAD_ARGUMENT = 14,          /* a flag above 1, a mode or extension above 3, a table above 4, a scfsi above 3 */
+    FOLGRIST_RATE_OFF_LADDER = 16,       /* the bit rate is neither 0 nor on the header's ladder */
+    FOLGRIST_STEPS_NOT_CARRIED = 17,     /* steps in a slot that the frame does not carry */
+    FOLGRIST_SHARED_INDICES_DIFFER = 18, /* granules share an index by their scfsi, and their indices differ */
+    FOLGRIST_NOTHING_THERE = 97,         /* a place outside the row, or steps that the row does not have */
+    FOLGRIST_SHORT_SLICE = 98            /* an array is shorter than the function asks */
 };
 
 enum folgrist_mode {
@@ -169,6 +173,17 @@ uint32_t folgrist_read_side_info(uint8_t lsf, uint32_t bit_rate, uint32_t sample
                                  uint8_t mode, uint8_t mode_extension, const uint8_t *bytes, size_t bytes_len, uint32_t *steps,
                                  size_t steps_len, uint8_t *scfsi, size_t scfsi_len, uint8_t *index, size_t index_len, uint32_t *out,
                                  size_t out_len);
+
+/* Whether a record hangs together in the header's frame. steps, scfsi and index: the record, as folgrist_write_side_info takes it. A slot that
+ * the frame does not carry has to have 0 steps (17). Where an allocation field serves both channels, their steps have to be equal (6). Where
+ * the frame carries a slot and its steps are not 0, granules that share an index by their scfsi have to have the same (18). The scfsi and the
+ * indices of idle slots are free. The slots are asked by rising subband, channel 0 first, and each of them in the order 17, 6, 18. out, 2
+ * elements: the subband and the channel of the first slot that fails, channel 0 beside 6; both are 0 unless the number is 17, 6 or 18. Steps
+ * that the row does not have and indices above 62 are not asked about: folgrist_write_side_info answers these with 7 and 8.
+ * Answers 0, 1, 2, 6, 14, 16, 17, 18, 98. */
+uint32_t folgrist_check_record(uint8_t lsf, uint32_t bit_rate, uint32_t sample_rate, uint8_t padding, uint8_t protection_bit, uint8_t mode,
+                               uint8_t mode_extension, const uint32_t *steps, size_t steps_len, const uint8_t *scfsi, size_t scfsi_len,
+                               const uint8_t *index, size_t index_len, uint32_t *out, size_t out_len);
 
 /* ---- the allocation tables ---- */
 

@@ -2,6 +2,9 @@
 
 pub mod allocation_kinds;
 pub mod budget_kinds;
+pub mod check_kinds;
+pub mod checked_records;
+pub mod checking;
 pub mod class_kinds;
 pub mod doubles;
 pub mod header_kinds;

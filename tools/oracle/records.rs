@@ -74,13 +74,18 @@ pub fn litter(record: &mut Record, budget: &FixedBitBudget, random: &mut Random)
         if !is_carried(budget, slot) {
             record.steps[slot] = any_steps(random);
         }
-        if !record.is_active(budget, slot) {
-            record.scfsi[slot] = random.below(4);
-            record.indices(slot).fill_with(|| match random.below(2) {
-                0 => reserved_index(random),
-                _ => random.below(256),
-            });
-        }
+        litter_idle(record, budget, slot, random);
+    }
+}
+
+/// Anything in scfsi and indices of the slot, unless it is active.
+pub fn litter_idle(record: &mut Record, budget: &FixedBitBudget, slot: usize, random: &mut Random) {
+    if !record.is_active(budget, slot) {
+        record.scfsi[slot] = random.below(4);
+        record.indices(slot).fill_with(|| match random.below(2) {
+            0 => reserved_index(random),
+            _ => random.below(256),
+        });
     }
 }
 

@@ -94,7 +94,8 @@ fn note_side_info(asker: &mut Asker) {
     }
 }
 
-fn given(worked: &Worked) -> Record {
+/// The record, with zeros in all that is not named.
+pub fn given(worked: &Worked) -> Record {
     let mut record = Record::EMPTY;
     worked
         .steps

@@ -1,5 +1,5 @@
-//! Headers whose budgets were worked out by hand, records whose bits were, and bytes whose records
-//! were, with what is expected.
+//! Headers whose budgets were worked out by hand, records whose bits were, bytes whose records were,
+//! and records that were checked by hand, with what is expected.
 
 use crate::heads::Head;
 
@@ -264,5 +264,142 @@ pub const READ: [(&str, Head, &[u8]); 17] = [
         "the same, its second index 63: answer 10",
         JOINT,
         &[0, 0, 0, 0, 32, 0, 0, 0, 0, 0, 0, 0, 0, 160, 127],
+    ),
+];
+
+/// What the check of a record answers. B2c has 8 subbands, B2a has 27, of which the bound leaves 4 to
+/// each channel.
+pub const CHECKED: [Worked; 26] = [
+    small(
+        "48000 Hz, single, 32000 bit/s, scfsi 10 and the indices 1 2 3 in subband 0, which has no \
+         steps: passes",
+        &[],
+        &[(0, 2, [1, 2, 3])],
+    ),
+    small(
+        "3 steps in subband 0, scfsi 00 and the indices 1 2 3: passes",
+        &[(0, 3)],
+        &[(0, 0, [1, 2, 3])],
+    ),
+    small(
+        "scfsi 01 and the indices 5 5 9: passes",
+        &[(0, 3)],
+        &[(0, 1, [5, 5, 9])],
+    ),
+    small(
+        "scfsi 01 and 5 9 9: answer 18 at 0 0",
+        &[(0, 3)],
+        &[(0, 1, [5, 9, 9])],
+    ),
+    small(
+        "scfsi 11 and 5 9 9: passes",
+        &[(0, 3)],
+        &[(0, 3, [5, 9, 9])],
+    ),
+    small(
+        "scfsi 11 and 5 5 9: answer 18 at 0 0",
+        &[(0, 3)],
+        &[(0, 3, [5, 5, 9])],
+    ),
+    small(
+        "scfsi 10 and 5 5 5: passes",
+        &[(0, 3)],
+        &[(0, 2, [5, 5, 5])],
+    ),
+    small(
+        "scfsi 10 and 5 5 9: answer 18 at 0 0",
+        &[(0, 3)],
+        &[(0, 2, [5, 5, 9])],
+    ),
+    small(
+        "scfsi 10 and 9 5 9: answer 18 at 0 0",
+        &[(0, 3)],
+        &[(0, 2, [9, 5, 9])],
+    ),
+    small(
+        "4 steps in subband 7, which its row lacks, scfsi 10 and three times 63: passes",
+        &[(7, 4)],
+        &[(7, 2, [63, 63, 63])],
+    ),
+    small("3 steps in subband 8: answer 17 at 8 0", &[(8, 3)], &[]),
+    small(
+        "3 steps in channel 1 of subband 0: answer 17 at 0 1",
+        &[(32, 3)],
+        &[],
+    ),
+    small(
+        "3 steps in both channels of subband 0, scfsi 01 and 5 9 9 in channel 0: answer 18 at 0 0, \
+         not 17",
+        &[(0, 3), (32, 3)],
+        &[(0, 1, [5, 9, 9])],
+    ),
+    small(
+        "3 steps in channel 1 of subband 0 and in subband 1, scfsi 01 and 5 9 9 there: answer 17 \
+         at 0 1, not 18",
+        &[(32, 3), (1, 3)],
+        &[(1, 1, [5, 9, 9])],
+    ),
+    joint(
+        "48000 Hz, joint, bound 4, 192000 bit/s, 3 and 5 steps in subband 3: passes",
+        &[(3, 3), (35, 5)],
+        &[],
+    ),
+    joint(
+        "3 and 5 steps in subband 4: answer 6 at 4 0",
+        &[(4, 3), (36, 5)],
+        &[],
+    ),
+    joint(
+        "5 steps in channel 1 of subband 26 alone: answer 6 at 26 0",
+        &[(58, 5)],
+        &[],
+    ),
+    joint(
+        "5 steps in channel 1 of subband 27 alone: answer 17 at 27 1",
+        &[(59, 5)],
+        &[],
+    ),
+    joint(
+        "3 and 5 steps in subband 4, scfsi 01 and 5 9 9 in its channel 0: answer 6 at 4 0, not 18",
+        &[(4, 3), (36, 5)],
+        &[(4, 1, [5, 9, 9])],
+    ),
+    joint(
+        "3 and 5 steps in subband 4, scfsi 01 and 5 9 9 in its channel 1: answer 6 at 4 0, not 18",
+        &[(4, 3), (36, 5)],
+        &[(36, 1, [5, 9, 9])],
+    ),
+    joint(
+        "scfsi 01 and 5 9 9 in channel 1 of subband 3, 3 and 5 steps in subband 4: answer 18 at 3 \
+         1, not 6",
+        &[(35, 3), (4, 3), (36, 5)],
+        &[(35, 1, [5, 9, 9])],
+    ),
+    joint(
+        "3 steps in both channels of subband 4, scfsi 01 and 5 9 9 in channel 1, 3 and 5 steps in \
+         subband 5: answer 18 at 4 1, not 6",
+        &[(4, 3), (36, 3), (5, 3), (37, 5)],
+        &[(36, 1, [5, 9, 9])],
+    ),
+    joint(
+        "3 and 5 steps in subband 26, 3 in subband 31: answer 6 at 26 0, not 17",
+        &[(26, 3), (58, 5), (31, 3)],
+        &[],
+    ),
+    joint(
+        "3 steps in subband 31 and in channel 1 of subband 0, scfsi 10 and 5 5 9 there: answer 18 \
+         at 0 1, not 17",
+        &[(31, 3), (32, 3)],
+        &[(32, 2, [5, 5, 9])],
+    ),
+    joint(
+        "scfsi 11 and 5 5 9 in subband 1 and in channel 1 of subband 0: answer 18 at 0 1",
+        &[(1, 3), (32, 3)],
+        &[(1, 3, [5, 5, 9]), (32, 3, [5, 5, 9])],
+    ),
+    joint(
+        "3 steps in channel 1 of subband 31: answer 17 at 31 1",
+        &[(63, 3)],
+        &[],
     ),
 ];

@@ -1,5 +1,5 @@
 -- Every question of the writer is answered yes of the steps that an allocation ends at.
-use mathlib.Core.Path.{_≡_, refl, sym, ap₂, _∙_}
+use mathlib.Core.Path.{_≡_, refl, sym, ap₂, _∙_, subst}
 use mathlib.Core.Bool.{Bool, true, false, cond, _&&_}
 use mathlib.Core.List.{List, [], _∷_}
 use mathlib.Core.Option.{Option, none, some, Option·map}
@@ -11,21 +11,19 @@ use lib.Dec.{T, eqb}
 use lib.Ieee.{Float}
 use lib.ListN.{length, getD, List·getD-eq-default}
 use borrow.Author.Tests.{eq-eqb, le-leb}
-use Rattle.tables.specs.Search.{place, oneOf}
+use Rattle.tables.specs.Search.{place}
 use Rattle.header.specs.Questions.{number}
 use Rattle.bitalloc.specs.Options.{isSome}
 use Rattle.bitalloc.specs.Tables.{rowOf, indexOf}
 use Rattle.layout.specs.declared.Layout.{Layout}
-use Rattle.layout.specs.declared.AllocationField.{AllocationField}
-use Rattle.layout.specs.Slots.{slotOf}
 use Rattle.layout.specs.Layout.{own, served, fieldsOf, fieldIn, fieldSteps}
 use Rattle.layout.proofs.FieldLaws.{carried}
 use Rattle.allocation_rounds.specs.Rounds.{placeIn}
 use Rattle.allocation_run.proofs.RuleLaws.{sound-row}
 use Rattle.allocation_worth.specs.Worth.{placesFrom, Worth}
-use Rattle.allocation_worth.proofs.WorthLaws.{one-of-head, one-of-tail}
-use Rattle.side_info.specs.SideInfo.{SideInfo, activeSlots, sameSteps, scalefactorAsked, recordAsked}
+use Rattle.side_info.specs.SideInfo.{SideInfo, activeSlots, scalefactorAsked, recordAsked}
 use Rattle.side_info.proofs.ListLaws.{each-at}
+use Rattle.side_info.proofs.ShareLaws.{all-same}
 use Rattle.side_info.proofs.AskedLaws.{FieldYes, record-passes}
 
 -- ---- a number that a list has is found
@@ -53,15 +51,8 @@ row-has n row p long zeroth e = go (decLt p (length row))
 
 -- ---- the fields
 
-all-same : (steps : List ℕ) (x : AllocationField) (chs : List ℕ)
-  → ((ch : ℕ) → T (oneOf chs ch) → getD steps (slotOf ch (x .subband)) 0 ≡ fieldSteps steps x) → sameSteps steps x chs ≡ true
-all-same steps x [] h = refl
-all-same steps x (ch ∷ chs) h =
-    ap₂ _&&_ (eq-eqb (getD steps (slotOf ch (x .subband)) 0) (fieldSteps steps x) (h ch (one-of-head ch chs)))
-    (all-same steps x chs (λ c t. h c (one-of-tail ch c chs t)))
-
 module _ (l : Layout) (smr : List (List Float)) (costs : List ℕ) (offered left : ℕ) (r : SideInfo) (w : Worth l smr costs offered (r .steps) left) where
-  field-yes : (f : ℕ) → f < length (fieldsOf l) → FieldYes l r (fieldIn (fieldsOf l) f)
+  pub field-yes : (f : ℕ) → f < length (fieldsOf l) → FieldYes l r (fieldIn (fieldsOf l) f)
   unfolding indexOf
   field-yes f h =
       let x = fieldIn (fieldsOf l) f in
@@ -69,7 +60,7 @@ module _ (l : Layout) (smr : List (List Float)) (costs : List ℕ) (offered left
       let row = rowOf t (x .subband) in
       let sound = sound-row t (x .subband) (carried l f h) in
       record {
-        shared = all-same (r .steps) x (served x) (λ ch c. w .both f ch h c);
+        shared = all-same (r .steps) x (served x) (λ ch c. w .both f ch h (subst T (sym c) tt));
         row = row-has (fieldSteps (r .steps) x) row (placeIn (placesFrom l (r .steps)) f) (let m = sound .some in omega arith) (sound .zeroth) (w .inRow f h)
       }
 

@@ -1,5 +1,5 @@
--- An accepted allocation when its frame is sent: its steps can be written with any scfsi and any indices of Table 3-B.1, and header, CRC, side
--- information, samples and ancillary data together fit the frame.
+-- An accepted allocation when its frame is sent: its record passes the check; its steps can be written with any scfsi and any indices of Table 3-B.1, and
+-- header, CRC, side information, samples and ancillary data together fit the frame.
 use Prim.Native.Nat.{ℕ, _+_, _≤_}
 use mathlib.Core.Path.{_≡_}
 use mathlib.Core.List.{List}
@@ -16,6 +16,8 @@ use Rattle.encoder_bit_allocator.specs.Allocation.{AllocationIs}
 use Rattle.side_info.specs.SideInfo.{sideInfo, headerLayout}
 use Rattle.side_info_writer.specs.declared.WrittenSideInfo.{WrittenSideInfo}
 use Rattle.side_info_writer.specs.Written.{WrittenIs}
+use Rattle.record_check.specs.declared.RecordCheck.{RecordCheck}
+use Rattle.record_check.specs.Check.{checked, CheckIs}
 
 -- the bits of the samples: those of each field, once where it serves both channels
 abbrev pub samplesOf : Layout → List ℕ → ℕ
@@ -37,3 +39,8 @@ pub record CanBeSent (q : Request) (smr : List (List Float)) (a : Allocation) : 
     → (scfsi : List ScfsiSlot) (scalefactors : List ℕ) → ((i : ℕ) → getD scalefactors i 0 ≤ 62)
     → (w : WrittenSideInfo) → WrittenIs (q .header) (sideInfo (a .audio .«nb_steps») scfsi scalefactors) w
     → SentIn q (a .audio .«nb_steps») w
+
+-- What the contracts of `allocate_bits` and `check_record` come to together: the record that an allocation accepts passes.
+pub record AllocationPasses (q : Request) (smr : List (List Float)) (a : Allocation) : Type 0 where
+  pub passes : AllocationIs q smr a → a .number ≡ 0
+    → (c : RecordCheck) → CheckIs (q .header) (sideInfo (a .audio .«nb_steps») (a .audio .scfsi) (a .audio .scalefactor)) c → c ≡ checked 0 0 0

@@ -1,9 +1,13 @@
--- Three indices that agree with the sharing come back from those that travel; as many travel as the scfsi says. By the four codes.
-use mathlib.Core.Path.{_≡_, refl, sym, _∙_}
+-- Three indices that agree with the sharing come back from those that travel; as many travel as the scfsi says; whether they agree. By the four codes.
+use mathlib.Core.Path.{_≡_, refl, sym, ap₂, _∙_}
+use mathlib.Core.Bool.{true, _&&_}
+use lib.Dec.{eqb}
 use lib.ListN.{length}
+use borrow.Author.Tests.{eqb-true, eq-eqb}
+use Rattle.tables.proofs.Rule.{both-true}
 use Rattle.audio_data.specs.declared.Scfsi.{Scfsi}
 use Rattle.audio_data.specs.declared.Scfsi.the-variants.{ThreePerGranule, Share01Then2, ShareAll, Share0Then12}
-use Rattle.audio_data.specs.Scfsi.{Three, three, Agrees, sent, restored, partsOf, codeOf, ofCode}
+use Rattle.audio_data.specs.Scfsi.{Three, three, Agrees, agreeing, sent, restored, partsOf, codeOf, ofCode}
 
 pub comes-back : (s : Scfsi) (t : Three) → Agrees s t → restored s (sent s t) ≡ t
 comes-back ThreePerGranule t h = refl
@@ -23,3 +27,17 @@ of-code ThreePerGranule = refl
 of-code Share01Then2 = refl
 of-code ShareAll = refl
 of-code Share0Then12 = refl
+
+-- the test of agreement, both ways
+pub agreeing-true : (s : Scfsi) (t : Three) → agreeing s t ≡ true → Agrees s t
+agreeing-true ThreePerGranule t e = tt
+agreeing-true Share01Then2 t e = eqb-true (t .first) (t .second) e
+agreeing-true ShareAll t e =
+    let b = both-true (eqb (t .first) (t .second)) (eqb (t .second) (t .third)) e in (eqb-true (t .first) (t .second) (b .0), eqb-true (t .second) (t .third) (b .1))
+agreeing-true Share0Then12 t e = eqb-true (t .second) (t .third) e
+
+pub agrees-true : (s : Scfsi) (t : Three) → Agrees s t → agreeing s t ≡ true
+agrees-true ThreePerGranule t h = refl
+agrees-true Share01Then2 t h = eq-eqb (t .first) (t .second) h
+agrees-true ShareAll t h = ap₂ _&&_ (eq-eqb (t .first) (t .second) (h .0)) (eq-eqb (t .second) (t .third) (h .1))
+agrees-true Share0Then12 t h = eq-eqb (t .second) (t .third) h

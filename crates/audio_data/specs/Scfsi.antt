@@ -2,7 +2,9 @@
 -- channel travel, and how three come back from those.
 use Prim.Native.Nat.{ℕ, zero, suc, _≤_}
 use mathlib.Core.Path.{_≡_}
+use mathlib.Core.Bool.{Bool, true, _&&_}
 use mathlib.Core.List.{List, [], _∷_}
+use lib.Dec.{eqb}
 use lib.ListN.{getD}
 use Rattle.audio_data.specs.declared.Scfsi.{Scfsi}
 use Rattle.audio_data.specs.declared.Scfsi.the-variants.{ThreePerGranule, Share01Then2, ShareAll, Share0Then12}
@@ -58,6 +60,13 @@ Agrees ThreePerGranule t = Unit {0}
 Agrees Share01Then2 t = t .first ≡ t .second
 Agrees ShareAll t = (t .first ≡ t .second) × (t .second ≡ t .third)
 Agrees Share0Then12 t = t .second ≡ t .third
+
+-- the same as a test: whether granules that share an index have the same
+abbrev pub agreeing : Scfsi → Three → Bool
+agreeing ThreePerGranule t = true
+agreeing Share01Then2 t = eqb (t .first) (t .second)
+agreeing ShareAll t = eqb (t .first) (t .second) && eqb (t .second) (t .third)
+agreeing Share0Then12 t = eqb (t .second) (t .third)
 
 -- ---- what the functions promise
 

@@ -146,10 +146,12 @@ fn write_side_info(h: Head) {
     );
     show::bytes(b"write_side_info", number, &bytes);
     show::words(b"write_side_info, out", number, &out);
+    check_record(h, &steps, &scfsi, &indices);
     read_side_info(h, &bytes);
 }
 
-// From what was written.
+// From what was written. What is read is checked, and again with steps in subband 28: joint stereo shares it, the single channel does not carry it, and that
+// of LSF does.
 fn read_side_info(h: Head, bytes: &[u8]) {
     let mut steps = [9u32; 64];
     let mut scfsi = [9u8; 64];
@@ -173,6 +175,27 @@ fn read_side_info(h: Head, bytes: &[u8]) {
     show::bytes(b"read_side_info, scfsi", number, &scfsi);
     show::bytes(b"read_side_info, indices", number, &indices);
     show::words(b"read_side_info, out", number, &out);
+    check_record(h, &steps, &scfsi, &indices);
+    steps[28] = 3;
+    check_record(h, &steps, &scfsi, &indices);
+}
+
+fn check_record(h: Head, steps: &[u32], scfsi: &[u8], indices: &[u8]) {
+    let mut out = [9u32; 2];
+    let number = side_info::folgrist_check_record(
+        h.lsf,
+        h.bit_rate,
+        h.sample_rate,
+        h.padding,
+        h.protection_bit,
+        h.mode,
+        h.mode_extension,
+        steps,
+        scfsi,
+        indices,
+        &mut out,
+    );
+    show::words(b"check_record", number, &out);
 }
 
 // From 30 dB down by three quarters of one from slot to slot.

@@ -1,22 +1,24 @@
--- Laws of a record's slices: what they mean, and how they are read.
-use mathlib.Core.Path.{_≡_, refl, sym, ap, _∙_, subst}
-use mathlib.Core.Bool.{Bool, true, false, _&&_, _||_}
+-- Laws of a record's slices: how they are read, and what they mean with a header.
+use mathlib.Core.Path.{_≡_, refl, sym, ap, ap₂, _∙_, subst}
+use mathlib.Core.Bool.{Bool, true, false, cond, _&&_, _||_, and-true, true≢false}
 use mathlib.Core.List.{List, [], _∷_, _++_, map}
 use mathlib.Core.Option.{Option, none, some}
 use Prim.Native.Nat.{ℕ, _+_, _≤_, _<_}
 use native.Mathlib.Numerals.{add-one}
 use native.Mathlib.Omega.{arith}
-use lib.Dec.{T, leb, ltb}
+use lib.Dec.{T, eqb, leb}
 use lib.ListN.{length, getD, set, take, drop, length-set, length-take, length-map, List·getD-map}
 use lib.Seq.{ext-getD, getD-take, take-suc, take-append-le}
+use borrow.Author.Tests.{eq-eqb, ne-eqb}
 use Rattle.tables.proofs.Listed.{filled}
 use Rattle.header.specs.declared.FrameHeader.{FrameHeader}
 use Rattle.audio_data.specs.declared.ScfsiSlot.{ScfsiSlot}
 use Rattle.side_info.specs.SideInfo.{SideInfo, sideInfo}
-use Rattle.c_answers.specs.Answers.{fitted}
-use Rattle.c_answers.proofs.AnswerLaws.{both-long, three-long}
+use Rattle.c_answers.specs.Answers.{Meaning, refused, meant, asked, fitted}
+use Rattle.c_answers.proofs.AnswerLaws.{three-long}
+use Rattle.c_side_info.specs.declared.record.RecordGiven.{RecordGiven}
 use Rattle.c_side_info.specs.Arguments.{shortRecord, areCodes, coded, recordIn, Frame, frame, framed}
-use Rattle.c_side_info.specs.Parts.{ScfsiAre}
+use Rattle.c_side_info.specs.Parts.{ScfsiAre, recordFrom, meaningIn, RecordIs}
 
 -- ---- the first questions
 
@@ -24,40 +26,81 @@ neither : (a b : Bool) → a || b ≡ false → (a ≡ false) × (b ≡ false)
 neither true b e = absurd (subst T e tt)
 neither false b e = (refl, e)
 
--- the record's slices, and two that are written, are long enough
-pub record Long (steps scfsi index first out : List ℕ) (n : ℕ) : Type 0 where
-  pub of-steps : 64 ≤ length steps
-  pub of-scfsi : 64 ≤ length scfsi
-  pub of-index : 192 ≤ length index
-  pub of-first : n ≤ length first
-  pub of-out : 1 ≤ length out
+-- the record's slices are long enough
+pub slices-long : (steps scfsi index : List ℕ) (short : Bool) → shortRecord steps scfsi index || short ≡ false
+  → (64 ≤ length steps) × (64 ≤ length scfsi) × (192 ≤ length index)
+slices-long steps scfsi index short e = three-long (length steps) 64 (length scfsi) 64 (length index) 192 (neither (shortRecord steps scfsi index) short e .0)
 
-pub all-long : (steps scfsi index first out : List ℕ) (n : ℕ) → shortRecord steps scfsi index || (ltb (length first) n || ltb (length out) 1) ≡ false
-  → Long steps scfsi index first out n
-all-long steps scfsi index first out n e =
-    let p = neither (shortRecord steps scfsi index) (ltb (length first) n || ltb (length out) 1) e in
-    let r = three-long (length steps) 64 (length scfsi) 64 (length index) 192 (p .0) in
-    let w = both-long (length first) n (length out) 1 (p .1) in
-    record { of-steps = r .0; of-scfsi = r .1; of-index = r .2; of-first = w .0; of-out = w .1 }
+-- 14 where a scfsi is no code
+abbrev pub codesNumber : Bool → ℕ
+codesNumber known = cond known 0 14
 
--- no header, no record, or both
-pub no-header : (o : Option FrameHeader) (r : Option SideInfo) → o ≡ none → framed o r ≡ none
-no-header o r e = rw e
-
-pub no-record : (o : Option FrameHeader) (steps scfsi index : List ℕ) → areCodes (take 64 scfsi) ≡ false → framed o (recordIn steps scfsi index) ≡ none
+-- the record, read from its slices
+pub read-record : (short : Bool) (steps scfsi index : List ℕ) (r : RecordGiven) → shortRecord steps scfsi index || short ≡ false
+  → r .number ≡ codesNumber (areCodes (take 64 scfsi)) → r .«nb_steps» ≡ take 64 steps → r .scfsi ≡ map coded (take 64 scfsi)
+  → r .scalefactor ≡ take 192 index → RecordIs short steps scfsi index r
 unfolding recordIn
-no-record none steps scfsi index e = refl
-no-record (some h) steps scfsi index e = rw e
+read-record short steps scfsi index r e n p q t = record {
+  is =
+      (λ i. cond (eqb (n i) 0) (meant (sideInfo (p i) (q i) (t i))) (refused (n i))) ∙ go (areCodes (take 64 scfsi))
+      ∙ sym (ap (λ (b : Bool). asked b found) e)
+}
+  where
+    whole : SideInfo
+    whole = sideInfo (take 64 steps) (map coded (take 64 scfsi)) (take 192 index)
+    found : Option SideInfo
+    found = cond (areCodes (take 64 scfsi)) (some whole) none
+    go : (b : Bool) → cond (eqb (codesNumber b) 0) (meant whole) (refused (codesNumber b)) ≡ asked false (cond b (some whole) none)
+    go true = refl
+    go false = refl
 
-pub a-record : (o : Option FrameHeader) (h : FrameHeader) (steps scfsi index : List ℕ) → o ≡ some h → areCodes (take 64 scfsi) ≡ true
-  → framed o (recordIn steps scfsi index) ≡ some (frame h (sideInfo (take 64 steps) (map coded (take 64 scfsi)) (take 192 index)))
-unfolding recordIn
-a-record o h steps scfsi index p e = rw (p, e)
+-- ---- the record with its header
 
--- what is found of a record, by the record's parts
-pub of-record : {W : Type 0} (f : SideInfo → W) (w : W) (steps steps′ : List ℕ) (scfsi scfsi′ : List ScfsiSlot) (index index′ : List ℕ)
-  → w ≡ f (sideInfo steps scfsi index) → steps ≡ steps′ → scfsi ≡ scfsi′ → index ≡ index′ → w ≡ f (sideInfo steps′ scfsi′ index′)
-of-record f w steps steps′ scfsi scfsi′ index index′ e p q r = rw (← p, ← q, ← r) e
+-- what a header makes of a record's meaning
+abbrev pub under : Option FrameHeader → Meaning SideInfo → Meaning Frame
+under o (refused n) = refused n
+under none (meant s) = refused 14
+under (some h) (meant s) = meant (frame h s)
+
+header-then : (short : Bool) (o : Option FrameHeader) (s : Option SideInfo) → asked short (framed o s) ≡ under o (asked short s)
+header-then true o s = refl
+header-then false none none = refl
+header-then false none (some x) = refl
+header-then false (some h) none = refl
+header-then false (some h) (some x) = refl
+
+module _ (short : Bool) (steps scfsi index : List ℕ) (r : RecordGiven) where
+  abbrev any : Bool
+  any = shortRecord steps scfsi index || short
+
+  abbrev s : Option SideInfo
+  s = recordIn steps scfsi index
+
+  abbrev by : Bool → Meaning SideInfo
+  by passed = cond passed (meant (recordFrom r)) (refused (r .number))
+
+  -- with a record, no slice is short
+  pub none-short : RecordIs short steps scfsi index r → r .number ≡ 0 → short ≡ false
+  none-short read z =
+      neither (shortRecord steps scfsi index) short (go any (ap known (sym (read .is) ∙ ap by (eq-eqb (r .number) 0 z)))) .1
+    where
+      known : Meaning SideInfo → Bool
+      known (refused n) = false
+      known (meant s) = true
+      go : (b : Bool) → known (asked b s) ≡ true → b ≡ false
+      go true e = absurd (true≢false (sym e))
+      go false e = refl
+
+  module _ (o : Option FrameHeader) (read : RecordIs short steps scfsi index r) where
+    with-header : asked any (framed o s) ≡ under o (meaningIn r)
+    with-header = header-then any o s ∙ ap (under o) (sym (read .is))
+
+    -- no record; or one, and the header decides
+    pub no-record : (r .number ≡ 0 → ⊥) → asked any (framed o s) ≡ refused (r .number)
+    no-record n = with-header ∙ ap (λ (b : Bool). under o (by b)) (ne-eqb (r .number) 0 n)
+
+    pub a-record : (k : Option FrameHeader) → r .number ≡ 0 → o ≡ k → asked any (framed o s) ≡ under k (meant (recordFrom r))
+    a-record k z p = with-header ∙ ap₂ (λ (h : Option FrameHeader) (b : Bool). under h (by b)) p (eq-eqb (r .number) 0 z)
 
 -- ---- reading
 
@@ -65,10 +108,6 @@ of-record f w steps steps′ scfsi scfsi′ index index′ e p q r = rw (← p, 
 pub front : {A : Type 0} (n : ℕ) (vs old new : List A) → length old ≡ n → n ≤ length vs → new ≡ fitted vs old → new ≡ take n vs
 unfolding fitted
 front n vs old new l h e = e ∙ ap (λ (k : ℕ). take k (vs ++ drop (length vs) old)) l ∙ take-append-le n vs (drop (length vs) old) h
-
-and-true : (b : Bool) → b && true ≡ b
-and-true true = refl
-and-true false = refl
 
 -- one code more
 one-more : (codes : List ℕ) (c : ℕ) → areCodes (codes ++ c ∷ []) ≡ areCodes codes && leb c 3

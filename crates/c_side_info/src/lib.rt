@@ -7,7 +7,7 @@ ghost use lib.Dec.{ltb};
 ghost use lib.ListN.{length};
 ghost use Rattle.c_answers.specs.Answers.{answered, Answers};
 ghost use Rattle.c_side_info.specs.Arguments.{frameNumbered};
-ghost use Rattle.c_side_info.specs.Replies.{bytesIn, bitsIn, bytesWritten, bitsWritten};
+ghost use Rattle.c_side_info.specs.Replies.{bytesIn, bitsIn, bytesWritten, bitsWritten, placeChecked};
 use c_answers::arguments::{HeaderGiven, HeaderNumbers};
 use c_answers::{arguments, writing};
 use side_info_writer::WrittenSideInfo;
@@ -29,22 +29,18 @@ pub fn write_side_info(given: HeaderNumbers, steps: &[u32], scfsi: &[u8], index:
           bitsWritten)
         (now (out .entry)) r (now (out .exit)) ⌝ }
 {
-    if record::is_short(steps, scfsi, index) | ((bytes.len() < 174) | (out.len() < 1)) {
-        return 98;
+    let read = record::record_given((bytes.len() < 174) | (out.len() < 1), steps, scfsi, index);
+    if read.number != 0 {
+        return read.number;
     }
     let HeaderGiven::Meant(header) = arguments::header_given(given) else {
         return 14;
     };
-    let slots = record::scfsi_given(scfsi);
-    if slots.meant {
-        let nb_steps = record::steps_of(steps);
-        let by_slot = slots.slots;
-        let scalefactor = record::indices_of(index);
-        let written = side_info_writer::write_side_info(header, nb_steps, by_slot, scalefactor);
-        put_written(written, bytes, out)
-    } else {
-        14
-    }
+    let nb_steps = read.nb_steps;
+    let slots = read.scfsi;
+    let scalefactor = read.scalefactor;
+    let written = side_info_writer::write_side_info(header, nb_steps, slots, scalefactor);
+    put_written(written, bytes, out)
 }
 
 // A writer's answer into its slices.
@@ -57,4 +53,28 @@ fn put_written(written: WrittenSideInfo, bytes: &mut [u8], out: &mut [u32]) -> u
     writing::put_bytes(&values, bytes);
     out[0] = written.bits_used;
     written.number
+}
+
+// Whether the record hangs together in the header's layout; where it does not, the subband and the channel that it fails at.
+pub fn check_record(given: HeaderNumbers, steps: &[u32], scfsi: &[u8], index: &[u8], out: &mut [u32]) -> u32
+    ensures { λ r. ⌜ Answers
+        (answered
+          (frameNumbered (ltb (length (now (out .entry))) 2) given (now (steps .entry)) (now (scfsi .entry)) (now (index .entry)))
+          placeChecked)
+        (now (out .entry)) r (now (out .exit)) ⌝ }
+{
+    let read = record::record_given(out.len() < 2, steps, scfsi, index);
+    if read.number != 0 {
+        return read.number;
+    }
+    let HeaderGiven::Meant(header) = arguments::header_given(given) else {
+        return 14;
+    };
+    let nb_steps = read.nb_steps;
+    let slots = read.scfsi;
+    let scalefactor = read.scalefactor;
+    let checked = record_checker::check_record(header, nb_steps, slots, scalefactor);
+    out[0] = checked.subband;
+    out[1] = checked.channel;
+    checked.number
 }

@@ -1,10 +1,10 @@
 -- Laws of the questions: what is asked behind others decides where those are all answered yes, and nowhere else.
 use mathlib.Core.Path.{_≡_, refl, sym, ap, _∙_}
-use mathlib.Core.Bool.{Bool, true, false, not, _&&_, true≢false}
+use mathlib.Core.Bool.{Bool, true, false, not, cond, _&&_, true≢false}
 use mathlib.Core.List.{List, [], _∷_, _++_}
 use Prim.Native.Nat.{ℕ}
 use lib.Dec.{T, eqb}
-use borrow.Author.Tests.{eq-eqb}
+use borrow.Author.Tests.{eqb-true, eq-eqb}
 use Rattle.header.specs.Questions.{Question, firstNo, number, telling}
 
 module _ {A : Type 0} where
@@ -19,16 +19,6 @@ module _ {A : Type 0} where
   pub behind : (a : A) (qs rs : List (Question A)) → firstNo a (qs ++ rs) ≡ firstNo (firstNo a rs) qs
   behind a [] rs = refl
   behind a (q ∷ qs) rs = ap (λ (x : A). elim (q .yes) [ true ↦ x | false ↦ q .otherwise ]) (behind a qs rs)
-
--- with another answer each
-pub told : {A B : Type 0} (f : A → B) (a : A) (qs : List (Question A)) → firstNo (f a) (telling f qs) ≡ f (firstNo a qs)
-told f a [] = refl
-told f a (q ∷ qs) = go (told f a qs) (q .yes)
-  where
-    go : firstNo (f a) (telling f qs) ≡ f (firstNo a qs) → (v : Bool)
-      → elim v [ true ↦ firstNo (f a) (telling f qs) | false ↦ f (q .otherwise) ] ≡ f (elim v [ true ↦ firstNo a qs | false ↦ q .otherwise ])
-    go rest true = rest
-    go rest false = refl
 
 -- ---- numbers
 
@@ -58,3 +48,24 @@ some-no n (q ∷ qs) e = go (some-no n qs) (q .yes) e
       → _≡_ {A = ℕ} (elim v [ true ↦ firstNo n qs | false ↦ q .otherwise ]) (elim v [ true ↦ number qs | false ↦ q .otherwise ])
     go rest true e = rest e
     go rest false e = refl
+
+-- where all of two lists are answered yes, all of the first are
+pub both-zero : (qs rs : List (Question ℕ)) → number (qs ++ rs) ≡ 0 → number qs ≡ 0
+both-zero qs rs e = go (eqb (number qs) 0) refl
+  where
+    go : (b : Bool) → eqb (number qs) 0 ≡ b → number qs ≡ 0
+    go true q = eqb-true (number qs) 0 q
+    go false q = sym (some-no (number rs) qs q) ∙ sym (behind 0 qs rs) ∙ e
+
+-- each told with a place, or with whatever `f` adds: where all are answered yes, what follows decides; else the number decides, so told
+pub decided : {B : Type 0} (f : ℕ → B) (b : B) (qs : List (Question ℕ)) → T (refusing qs) → firstNo b (telling f qs) ≡ cond (eqb (number qs) 0) b (f (number qs))
+decided f b [] t = refl
+decided f b (q ∷ qs) t = go (decided f b qs) (q .yes) (eqb (q .otherwise) 0) refl t
+  where
+    go : (T (refusing qs) → firstNo b (telling f qs) ≡ cond (eqb (number qs) 0) b (f (number qs))) → (v zero : Bool) → eqb (q .otherwise) 0 ≡ zero
+      → T (not zero && refusing qs)
+      → elim v [ true ↦ firstNo b (telling f qs) | false ↦ f (q .otherwise) ]
+      ≡ cond (eqb (elim v [ true ↦ number qs | false ↦ q .otherwise ]) 0) b (f (elim v [ true ↦ number qs | false ↦ q .otherwise ]))
+    go rest v true z t = absurd t
+    go rest true false z t = rest t
+    go rest false false z t = rw z

@@ -18,6 +18,6 @@ firstNo accepted (q ∷ qs) = elim (q .yes) [ true ↦ firstNo accepted qs | fal
 abbrev pub number : List (Question ℕ) → ℕ
 number qs = firstNo 0 qs
 
--- the same questions with another answer each: a number with no place, in front of questions that have one
+-- the same questions, each answer told as something else: a number with a place, or with none
 abbrev pub telling : {A B : Type 0} → (A → B) → List (Question A) → List (Question B)
 telling f qs = map (λ q. record { yes = q .yes; otherwise = f (q .otherwise) }) qs

@@ -1,10 +1,11 @@
-// The kinds of side information: written, and read.
+// The kinds of side information: written, read, and checked.
 ghost use Prim.Native.Nat.{_≤_};
 use crate::arguments::OptionHeader;
 use crate::arguments::header_of;
 use crate::budget_kinds::same_steps;
 use audio_data::Scfsi;
 use audio_data::ScfsiSlot;
+use record_check::RecordCheck;
 use replay_answers::Verdict;
 use replay_answers::same_numbers;
 use replay_answers::verdict_of;
@@ -17,6 +18,7 @@ pub fn replay(count: usize, numbers: &[u64; 256]) -> Verdict {
     match kind {
         33 => write_side_info(count, numbers),
         34 => read_side_info(count, numbers),
+        35 => check_record(count, numbers),
         _ => Verdict::Unread,
     }
 }
@@ -152,4 +154,21 @@ fn same_codes(numbers: &[u64; 256], slots: [ScfsiSlot; 64]) -> bool {
         slot = slot + 1;
     }
     same
+}
+
+// H, 64 numbers of steps, 2 numbers of 32 scfsi codes each, 24 numbers of 8 indices each -> number, subband, channel.
+fn check_record(count: usize, numbers: &[u64; 256]) -> Verdict {
+    let OptionHeader::Some(header) = header_of(numbers) else {
+        return Verdict::Unread;
+    };
+    let mut steps = [0; 64];
+    let read = read_steps(numbers, &mut steps);
+    let checked = record_checker::check_record(header, steps, scfsi_of(numbers), indices_of(numbers));
+    verdict_of(read & (count == 101), same_check(numbers, checked))
+}
+
+// Whether a line expects what the check answers.
+fn same_check(numbers: &[u64; 256], checked: RecordCheck) -> bool {
+    let answers = [checked.number as u64, checked.subband as u64, checked.channel as u64];
+    same_numbers(numbers, 98, &answers)
 }

@@ -2,8 +2,8 @@
 use mathlib.Core.Path.{_≡_, refl, sym, ap₂, subst}
 use mathlib.Core.Bool.{Bool, true, false, _||_, true≢false}
 use mathlib.Core.List.{List, [], _∷_, _++_}
-use Prim.Native.Nat.{ℕ, suc, _<_, suc-le-suc}
-use native.Mathlib.Nat.{zero-lt-suc}
+use Prim.Native.Nat.{ℕ, zero, suc, _<_, suc-le-suc}
+use native.Mathlib.Nat.{zero-lt-suc, not-suc-le-zero, le-of-suc-le-suc}
 use lib.Dec.{eqb}
 use lib.ListN.{length, getD}
 use borrow.Author.Tests.{eqb-true, eq-eqb, ne-eqb}
@@ -28,6 +28,11 @@ module _ {A : Type 0} where
   pub each-at : (P : A → Type 0) (d : A) (xs : List A) → ((k : ℕ) → k < length xs → P (getD xs k d)) → Each P xs
   each-at P d [] h = tt
   each-at P d (x ∷ xs) h = (h 0 (zero-lt-suc (length xs)), each-at P d xs (λ k l. h (suc k) (suc-le-suc l)))
+
+  pub each-get : (P : A → Type 0) (d : A) (xs : List A) → Each P xs → (k : ℕ) → k < length xs → P (getD xs k d)
+  each-get P d [] e k h = absurd (not-suc-le-zero h)
+  each-get P d (x ∷ xs) e zero h = e .0
+  each-get P d (x ∷ xs) e (suc k) h = each-get P d xs (e .1) k (le-of-suc-le-suc h)
 
 -- ---- numbers that a list has
 

@@ -35,9 +35,13 @@ pub record SideInfo : Type 0 where
 abbrev pub sideInfo : List ℕ → List ScfsiSlot → List ℕ → SideInfo
 sideInfo steps scfsi scalefactors = record { steps = steps; scfsi = scfsi; scalefactors = scalefactors }
 
+-- the scfsi of a slot that sends none
+abbrev pub idleScfsi : ScfsiSlot
+idleScfsi = record { scfsi = ThreePerGranule }
+
 -- of a slot: its scfsi, and the scalefactor indices of its three granules
 abbrev pub scfsiIn : SideInfo → ℕ → Scfsi
-scfsiIn r slot = (getD (r .scfsi) slot (record { scfsi = ThreePerGranule })) .scfsi
+scfsiIn r slot = (getD (r .scfsi) slot idleScfsi) .scfsi
 
 abbrev pub scalefactorsIn : SideInfo → ℕ → Three
 scalefactorsIn r slot =

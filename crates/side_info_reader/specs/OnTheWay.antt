@@ -5,6 +5,7 @@ use mathlib.Core.Path.{_≡_}
 use mathlib.Core.Bool.{Bool}
 use mathlib.Core.List.{List, _∷_}
 use lib.ListN.{getD}
+use Rattle.side_info.specs.SideInfo.{idleScfsi}
 use Rattle.bitalloc.specs.declared.BitAllocTable.{BitAllocTable}
 use Rattle.bitalloc.specs.Tables.{rowOf}
 use Rattle.layout.specs.declared.Layout.{Layout}
@@ -14,7 +15,7 @@ use Rattle.audio_data.specs.declared.Scfsi.{Scfsi}
 use Rattle.audio_data.specs.declared.ScfsiSlot.{ScfsiSlot}
 use Rattle.audio_data.specs.Scfsi.{Three, three, partsOf, restored}
 use Rattle.side_info_reading.specs.Taken.{Taken, got, refused, andThen, eachTaken}
-use Rattle.side_info_reading.specs.Reading.{fieldTaken, indexTaken, indicesTaken, threeTaken, inSlots, inGranules, idleScfsi, withSteps, withScfsi, sideInfoTaken}
+use Rattle.side_info_reading.specs.Reading.{fieldTaken, indexTaken, indicesTaken, threeTaken, inSlots, inGranules, withSteps, withScfsi, sideInfoTaken}
 use Rattle.side_info_reading.specs.declared.ReadSideInfo.{ReadSideInfo}
 use Rattle.side_info_reading.specs.Read.{readBy}
 use Rattle.side_info_reader.specs.declared.Section.{Section}

@@ -5,30 +5,22 @@ use mathlib.Core.List.{List, [], _∷_, _++_, append-assoc, flatMap}
 use mathlib.Core.Logic.{_⊎_, inl, inr}
 use Prim.Native.Nat.{ℕ, zero, suc, _+_, _*_, _/_, _%_, _<_}
 use native.Mathlib.Omega.{arith}
-use native.Mathlib.Decide.{decLt}
-use lib.ListN.{getD, replicate, length-replicate, getD-replicate, List·getD-eq-default}
+use lib.ListN.{getD, replicate, length-replicate}
 use Rattle.tables.specs.Search.{oneOf}
+use Rattle.tables.proofs.Listed.{blank}
 use Rattle.layout.specs.declared.Layout.{Layout}
 use Rattle.layout.specs.declared.AllocationField.{AllocationField}
 use Rattle.layout.specs.Layout.{served, fieldsOf, fieldSteps, slotsOf}
 use Rattle.audio_data.specs.Scfsi.{Three, three}
-use Rattle.side_info.specs.SideInfo.{SideInfo, sideInfo, scfsiIn, scalefactorsIn, activeSlots, allocationFieldBits, scfsiBits, scalefactorBits, sideInfoBits, tabled}
+use Rattle.side_info.specs.SideInfo.{SideInfo, sideInfo, scfsiIn, scalefactorsIn, activeSlots, allocationFieldBits, scfsiBits, scalefactorBits, sideInfoBits, tabled, idleScfsi}
 use Rattle.side_info_reading.specs.Taken.{got}
-use Rattle.side_info_reading.specs.Reading.{fieldTaken, scfsiTaken, threeTaken, inSlots, inSlot, inGranules, idleScfsi, nothing, allocationTaken, scfsisTaken, scalefactorsTaken, withScfsi, withSteps, sideInfoTaken}
+use Rattle.side_info_reading.specs.Reading.{fieldTaken, scfsiTaken, threeTaken, inSlots, inSlot, inGranules, nothing, allocationTaken, scfsisTaken, scalefactorsTaken, withScfsi, withSteps, sideInfoTaken}
 use Rattle.side_info_reading.specs.Read.{Restorable}
 use Rattle.side_info.proofs.ListLaws.{Each, each-map, each-both, each-one, each-of}
 use Rattle.side_info_reading.proofs.TakenLaws.{then-got, Sent, each-back}
 use Rattle.side_info.proofs.AskedLaws.{FieldYes, RecordYes}
 use Rattle.side_info_reading.proofs.SlotLaws.{Field, each-field, slotsFor, field-slots-small, slots-of-fields, active-below, alone, threePlaces, three-of}
 use Rattle.side_info_reading.proofs.PartLaws.{field-sent, same-held, steps-placed, scfsi-sent, three-sent}
-
--- a list of one value alone
-pub blank : {A : Type 0} (n : ℕ) (d : A) (k : ℕ) → getD (replicate n d) k d ≡ d
-blank n d k = go (decLt k n)
-  where
-    go : Dec (k < n) → getD (replicate n d) k d ≡ d
-    go (yes h) = getD-replicate n k d d h
-    go (no h) = List·getD-eq-default (replicate n d) d {n = k} (rw (length-replicate n d) (omega arith))
 
 flat-same : {A B : Type 0} (f g : A → List B) → ((x : A) → f x ≡ g x) → (xs : List A) → flatMap f xs ≡ flatMap g xs
 unfolding flatMap

@@ -6,14 +6,15 @@ use Prim.Native.Nat.{ℕ, _+_, _*_, _/_, _<_}
 use native.Mathlib.Omega.{arith}
 use lib.ListN.{getD, replicate, length-replicate}
 use Rattle.tables.specs.Search.{oneOf}
+use Rattle.tables.proofs.Listed.{blank}
 use Rattle.layout.specs.declared.Layout.{Layout}
 use Rattle.layout.specs.Layout.{served, fieldsOf, fieldSteps}
 use Rattle.audio_data.specs.declared.Scfsi.{Scfsi}
 use Rattle.audio_data.specs.declared.ScfsiSlot.{ScfsiSlot}
 use Rattle.audio_data.specs.Scfsi.{Three, three}
-use Rattle.side_info.specs.SideInfo.{SideInfo, sideInfo, activeSlots, allocationFieldBits, scfsiBits, scalefactorBits, sideInfoBits}
+use Rattle.side_info.specs.SideInfo.{SideInfo, sideInfo, activeSlots, allocationFieldBits, scfsiBits, scalefactorBits, sideInfoBits, idleScfsi}
 use Rattle.side_info_reading.specs.Taken.{got}
-use Rattle.side_info_reading.specs.Reading.{fieldTaken, scfsiTaken, threeTaken, inSlots, inSlot, inGranules, idleScfsi, nothing, allocationTaken, scfsisTaken, scalefactorsTaken, withScfsi, withSteps, sideInfoTaken}
+use Rattle.side_info_reading.specs.Reading.{fieldTaken, scfsiTaken, threeTaken, inSlots, inSlot, inGranules, nothing, allocationTaken, scfsisTaken, scalefactorsTaken, withScfsi, withSteps, sideInfoTaken}
 use Rattle.side_info_reading.specs.Read.{Restorable}
 use Rattle.side_info.proofs.ListLaws.{Each, each-map, each-one, Distinct}
 use Rattle.side_info_reading.proofs.LaidLaws.{Held}
@@ -21,7 +22,6 @@ use Rattle.side_info_reading.proofs.TakenLaws.{same-value, same-rest, b
 use Rattle.side_info.proofs.AskedLaws.{RecordYes}
 use Rattle.side_info_reading.proofs.SlotLaws.{Field, each-field, slotsFor, slots-of-fields, slots-different, slots-small, active-distinct, active-below, alone, threePlaces, three-of, three-distinct, three-below}
 use Rattle.side_info_reading.proofs.PartLaws.{fieldWire, InRow, field-took, field-value, steps-placed, held-same, scfsiWire, scfsi-took, threeWire, ThreeIn, three-took}
-use Rattle.side_info_reading.proofs.BackLaws.{blank}
 
 -- ---- the allocation
 

@@ -5,3 +5,4 @@ pub mod PartLaws
 pub mod BackLaws
 pub mod ForthLaws
 pub mod ReadLaws
+pub mod PassLaws

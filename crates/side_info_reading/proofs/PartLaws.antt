@@ -8,6 +8,7 @@ use native.Mathlib.Omega.{arith}
 use lib.Dec.{eqb, leb, lit<}
 use lib.ListN.{length, getD}
 use borrow.Author.Tests.{eqb-true, eqb-false, eq-eqb, ne-eqb, leb-true, le-leb}
+use Rattle.tables.proofs.Rule.{both-true}
 use Rattle.tables.proofs.Search.{there}
 use Rattle.bitalloc.specs.Options.{isSome, orZero}
 use Rattle.bitalloc.specs.Tables.{nbalOf, rowOf, stepsAt, indexOf}
@@ -93,11 +94,6 @@ steps-placed x n = go (x .both)
     go false = refl
 
 -- the channels of a field have the same steps
-both-true : (a b : Bool) → a && b ≡ true → (a ≡ true) × (b ≡ true)
-both-true true true e = (refl, refl)
-both-true true false e = absurd (true≢false (sym e))
-both-true false b e = absurd (true≢false (sym e))
-
 module _ (steps : List ℕ) (x : AllocationField) where
   pub same-held : (chs : List ℕ) → Each (λ k. k < length steps) (map (λ ch. slotOf ch (x .subband)) chs) → sameSteps steps x chs ≡ true
     → Held 0 steps (map (λ ch. (slotOf ch (x .subband), fieldSteps steps x)) chs)

@@ -9,8 +9,8 @@ use lib.ListN.{length, getD, take, drop, replicate, length-append, take-append-d
 use lib.Seq.{take-at}
 use borrow.Author.Tests.{eqb-true, eq-eqb}
 use Rattle.header.specs.declared.FrameHeader.{FrameHeader}
-use Rattle.header.specs.Questions.{Question, number}
-use Rattle.header.proofs.QuestionLaws.{behind, all-yes, some-no}
+use Rattle.header.specs.Questions.{number}
+use Rattle.header.proofs.QuestionLaws.{behind, all-yes, both-zero}
 use Rattle.encoder_bit_budget.specs.Budget.{headerAsked}
 use Rattle.encoder_bit_budget.proofs.BudgetLaws.{refusing-header}
 use Rattle.bitalloc.specs.Tables.{nbalOf, rowOf}
@@ -19,13 +19,13 @@ use Rattle.layout.specs.Layout.{fieldsOf}
 use Rattle.audio_data.specs.Scfsi.{ofCode, partsOf, restored}
 use Rattle.bit_string.specs.Bits.{front, packed, unpacked}
 use Rattle.bit_string.proofs.PackLaws.{unpacked-packed}
-use Rattle.side_info.specs.SideInfo.{SideInfo, sideInfo, headerLayout, activeSlots, sideInfoBits, recordAsked}
+use Rattle.side_info.specs.SideInfo.{SideInfo, sideInfo, headerLayout, activeSlots, sideInfoBits, recordAsked, idleScfsi}
 use Rattle.side_info.proofs.CountLaws.{most}
 use Rattle.side_info_writer.specs.declared.WrittenSideInfo.{WrittenSideInfo}
 use Rattle.side_info_writer.specs.Written.{written, whereZero, writerAsked, writtenOf}
 use Rattle.side_info_reading.specs.declared.ReadSideInfo.{ReadSideInfo}
 use Rattle.side_info_reading.specs.Taken.{Taken, got, refused, andThen, numberTaken, laid, eachTaken}
-use Rattle.side_info_reading.specs.Reading.{fieldTaken, scfsiTaken, indexTaken, indicesTaken, threeTaken, inSlots, inSlot, inGranules, idleScfsi, nothing, allocationTaken, scfsisTaken, scalefactorsTaken, withScfsi, withSteps, sideInfoTaken}
+use Rattle.side_info_reading.specs.Reading.{fieldTaken, scfsiTaken, indexTaken, indicesTaken, threeTaken, inSlots, inSlot, inGranules, nothing, allocationTaken, scfsisTaken, scalefactorsTaken, withScfsi, withSteps, sideInfoTaken}
 use Rattle.side_info_reading.specs.Read.{read, readBy, readOf, recordIn, Restorable, ReadIs}
 use Rattle.side_info.proofs.AskedLaws.{record-yes, record-passes}
 use Rattle.side_info_reading.proofs.BackLaws.{comes-back}
@@ -86,20 +86,11 @@ taken-refusing l bits =
           (activeSlots l steps) (nothing .scalefactors) rest)
         (λ scalefactors rest. tt)))
 
--- ---- questions behind others
-
-both-zero : (qs rs : List (Question ℕ)) → number (qs ++ rs) ≡ 0 → number qs ≡ 0
-both-zero qs rs e = go (eqb (number qs) 0) refl
-  where
-    go : (b : Bool) → eqb (number qs) 0 ≡ b → number qs ≡ 0
-    go true q = eqb-true (number qs) 0 q
-    go false q = sym (some-no (number rs) qs q) ∙ sym (behind 0 qs rs) ∙ e
-
 module _ (h : FrameHeader) where
   abbrev l : Layout
   l = headerLayout h
 
-  rest-decides : (s : SideInfo) → number (headerAsked h) ≡ 0 → number (writerAsked h s) ≡ number (recordAsked l s)
+  pub rest-decides : (s : SideInfo) → number (headerAsked h) ≡ 0 → number (writerAsked h s) ≡ number (recordAsked l s)
   rest-decides s z = behind 0 (headerAsked h) (recordAsked l s) ∙ all-yes (number (recordAsked l s)) (headerAsked h) (refusing-header h) z
 
   -- ---- what is written of an accepted record
@@ -108,7 +99,7 @@ module _ (h : FrameHeader) where
   unfolding writtenOf
   written-zero s z = ap (λ (n : ℕ). written n (whereZero n (sideInfoBits l s))) z
 
-  zero-asked : (s : SideInfo) → writtenOf h s .number ≡ 0 → number (writerAsked h s) ≡ 0
+  pub zero-asked : (s : SideInfo) → writtenOf h s .number ≡ 0 → number (writerAsked h s) ≡ 0
   unfolding writtenOf
   zero-asked s z = z
 

@@ -1,6 +1,6 @@
 -- The slots of fields, the active slots and the places of their scalefactors: all different, and all there.
 use mathlib.Core.Path.{_≡_, refl, ap, ap₂, _∙_}
-use mathlib.Core.Bool.{Bool, true, false, cond, _||_}
+use mathlib.Core.Bool.{Bool, true, false, not, cond, _&&_, _||_}
 use mathlib.Core.List.{List, [], _∷_, _++_, map, flatMap}
 use Prim.Native.Nat.{ℕ, _+_, _*_, _/_, _<_}
 use native.Mathlib.Omega.{arith}
@@ -16,7 +16,8 @@ use Rattle.layout.specs.Layout.{own, served, limitOf, fieldsOf, fieldIn, slotsI
 use Rattle.layout.proofs.FieldLaws.{carried, serves-first, channel-small}
 use Rattle.layout.proofs.WireLaws.{slot-small, slots-differ}
 use Rattle.side_info.specs.SideInfo.{activeAmong, activeSlots}
-use Rattle.side_info.proofs.ListLaws.{Each, each-at, not-first, Distinct, distinct-at}
+use Rattle.side_info.proofs.ActiveLaws.{active-has}
+use Rattle.side_info.proofs.ListLaws.{Each, each-at, Distinct, distinct-at}
 
 -- ---- of fields
 
@@ -62,14 +63,7 @@ slots-small l = each-at (λ k. k < 64) 0 (slotsOf l) (slot-small l)
 
 module _ (steps : List ℕ) where
   active-missing : (k : ℕ) (slots : List ℕ) → oneOf slots k ≡ false → oneOf (activeAmong steps slots) k ≡ false
-  unfolding oneOf
-  active-missing k [] e = e
-  active-missing k (s ∷ slots) e = go (eqb (getD steps s 0) 0) (not-first k s slots e) (active-missing k slots)
-    where
-      go : (b : Bool) → (eqb k s ≡ false) × (oneOf slots k ≡ false) → (oneOf slots k ≡ false → oneOf (activeAmong steps slots) k ≡ false)
-        → oneOf (cond b (activeAmong steps slots) (s ∷ activeAmong steps slots)) k ≡ false
-      go true n ih = ih (n .1)
-      go false n ih = ap₂ _||_ (n .0) (ih (n .1))
+  active-missing k slots e = active-has steps k slots ∙ ap (λ (b : Bool). b && not (eqb (getD steps k 0) 0)) e
 
   active-different : (slots : List ℕ) → Distinct slots → Distinct (activeAmong steps slots)
   active-different [] d = tt

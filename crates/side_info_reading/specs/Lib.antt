@@ -1,3 +1,4 @@
 pub mod Taken
 pub mod Reading
 pub mod Read
+pub mod Passes

@@ -1,20 +1,20 @@
 -- The whole answer of the reader of a frame's side information, and what it promises of what was written.
 use Prim.Native.Nat.{ℕ, _-_, _≤_}
 use mathlib.Core.Path.{_≡_}
-use mathlib.Core.Bool.{Bool, true, false, cond}
+use mathlib.Core.Bool.{Bool, false, cond}
 use mathlib.Core.List.{List}
 use lib.Dec.{eqb}
-use lib.ListN.{length, getD, take}
+use lib.ListN.{length, take}
 use Rattle.tables.specs.Search.{oneOf}
 use Rattle.header.specs.declared.FrameHeader.{FrameHeader}
 use Rattle.header.specs.Questions.{number}
 use Rattle.encoder_bit_budget.specs.Budget.{headerAsked}
 use Rattle.layout.specs.declared.Layout.{Layout}
-use Rattle.layout.specs.Layout.{slotsOf}
 use Rattle.audio_data.specs.declared.Scfsi.the-variants.{ThreePerGranule}
-use Rattle.audio_data.specs.Scfsi.{three, Agrees}
+use Rattle.audio_data.specs.Scfsi.{three}
 use Rattle.bit_string.specs.Bits.{unpacked}
 use Rattle.side_info.specs.SideInfo.{SideInfo, sideInfo, scfsiIn, scalefactorsIn, headerLayout, activeSlots}
+use Rattle.record_check.specs.Together.{StepsCarried, IndicesShared}
 use Rattle.side_info_writer.specs.Written.{written, writtenOf}
 use Rattle.side_info_reading.specs.declared.ReadSideInfo.{ReadSideInfo}
 use Rattle.side_info_reading.specs.Taken.{Taken, got, refused}
@@ -49,9 +49,9 @@ pub record Restorable (l : Layout) (s : SideInfo) : Type 0 where
   pub steps-long : length (s .steps) ≡ 64
   pub scfsi-long : length (s .scfsi) ≡ 64
   pub scalefactors-long : length (s .scalefactors) ≡ 192
-  pub agrees : (slot : ℕ) → oneOf (activeSlots l (s .steps)) slot ≡ true → Agrees (scfsiIn s slot) (scalefactorsIn s slot)
+  pub agrees : (slot : ℕ) → IndicesShared l s slot
   pub idle : (slot : ℕ) → oneOf (activeSlots l (s .steps)) slot ≡ false → (scfsiIn s slot ≡ ThreePerGranule) × (scalefactorsIn s slot ≡ three 0 0 0)
-  pub outside : (slot : ℕ) → oneOf (slotsOf l) slot ≡ false → getD (s .steps) slot 0 ≡ 0
+  pub outside : (slot : ℕ) → StepsCarried l s slot
 
 -- two byte strings agree on their first n bits
 abbrev pub Alike : ℕ → List ℕ → List ℕ → Type 0

@@ -10,10 +10,9 @@ use Rattle.layout.specs.declared.AllocationField.{AllocationField}
 use Rattle.layout.specs.Slots.{slotOf}
 use Rattle.layout.specs.Layout.{served, fieldsOf}
 use Rattle.audio_data.specs.declared.Scfsi.{Scfsi}
-use Rattle.audio_data.specs.declared.Scfsi.the-variants.{ThreePerGranule}
 use Rattle.audio_data.specs.declared.ScfsiSlot.{ScfsiSlot}
 use Rattle.audio_data.specs.Scfsi.{Three, ofCode, partsOf, restored}
-use Rattle.side_info.specs.SideInfo.{SideInfo, sideInfo, activeSlots}
+use Rattle.side_info.specs.SideInfo.{SideInfo, sideInfo, idleScfsi, activeSlots}
 use Rattle.side_info_reading.specs.Taken.{Taken, got, refused, andThen, numberTaken, eachTaken}
 
 -- ---- the fields
@@ -54,10 +53,6 @@ abbrev pub inGranules : ℕ → Three → List (ℕ × ℕ)
 inGranules slot t = (3 * slot, t .first) ∷ (3 * slot + 1, t .second) ∷ (3 * slot + 2, t .third) ∷ []
 
 -- ---- the whole
-
--- the scfsi of a slot that sends none
-abbrev pub idleScfsi : ScfsiSlot
-idleScfsi = record { scfsi = ThreePerGranule }
 
 -- nothing read: no steps, `ThreePerGranule`, every index 0. So it stands beside a refusal, and so a slot is left that nothing is read for.
 unfoldable pub nothing : SideInfo

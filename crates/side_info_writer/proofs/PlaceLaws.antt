@@ -1,14 +1,13 @@
 -- A field's place as the code finds it, and what it says of the questions and of the bits.
 use mathlib.Core.Path.{_≡_, refl, sym, ap, ap₂, _∙_}
-use mathlib.Core.Bool.{Bool, true, false, cond, _&&_}
-use mathlib.Core.List.{List, [], _∷_, _++_}
+use mathlib.Core.Bool.{Bool, true, false, cond}
+use mathlib.Core.List.{List, _∷_, _++_}
 use mathlib.Core.Option.{Option, none, some}
 use Prim.Native.Nat.{ℕ, zero, suc, _+_, _^_, _<_}
 use native.Mathlib.Nat.{zero-add}
 use native.Mathlib.Omega.{arith}
 use lib.Dec.{eqb}
 use lib.ListN.{length, getD}
-use borrow.Author.Tests.{eqb-true, eqb-false, eq-eqb, ne-eqb}
 use Rattle.header.specs.Questions.{Question, number}
 use Rattle.header.proofs.QuestionLaws.{said-yes}
 use Rattle.bitalloc.specs.declared.BitAllocTable.{BitAllocTable}
@@ -21,7 +20,8 @@ use Rattle.layout.specs.Slots.{slotOf}
 use Rattle.layout.specs.Layout.{fieldSteps}
 use Rattle.bit_string.specs.Bits.{bitsOf}
 use Rattle.bit_string.proofs.BitLaws.{length-bits}
-use Rattle.side_info.specs.SideInfo.{SideInfo, sameSteps, sharedAsked, rowAsked, fieldAsked, allocationFieldBits}
+use Rattle.side_info.specs.SideInfo.{SideInfo, sharedAsked, rowAsked, fieldAsked, allocationFieldBits}
+use Rattle.side_info.proofs.ShareLaws.{shared-is}
 use Rattle.side_info_writer.specs.declared.FieldPlace.the-variants as Place
 use Rattle.side_info_writer.specs.OnTheWay.{agree, held, foundBy, found}
 
@@ -57,37 +57,8 @@ refused-only false o n e = let z : 6 ≡ n = cc in (λ rest. z, rw (← z))
 refused-only true none n e = let z : 7 ≡ n = cc in (λ rest. z, rw (← z))
 refused-only true (some p) n e = absurd (let z : _≡_ {A = ℕ} 0 1 = cc in omega arith)
 
-same : (n : ℕ) → eqb n n ≡ true
-same n = eq-eqb n n refl
-
-and-true : (b : Bool) → b && true ≡ b
-and-true true = refl
-and-true false = refl
-
-turned : (a b : ℕ) → eqb a b ≡ eqb b a
-turned a b = go (eqb a b) refl
-  where
-    go : (v : Bool) → eqb a b ≡ v → v ≡ eqb b a
-    go true e = sym (eq-eqb b a (sym (eqb-true a b e)))
-    go false e = sym (ne-eqb b a (λ q. eqb-false a b e (sym q)))
-
 pub field-long : (l : Layout) (r : SideInfo) (x : AllocationField) → length (allocationFieldBits l r x) ≡ nbalOf (l .table) (x .subband)
 field-long l r x = length-bits (nbalOf (l .table) (x .subband)) (orZero (indexOf (l .table) (x .subband) (fieldSteps (r .steps) x)))
-
--- of a field's channel and whether it serves both
-agree-by : (steps : List ℕ) (sb ch : ℕ) (two : Bool) → ch < 2
-  → cond two (eqb (getD steps (32 + sb) 0) (getD steps sb 0)) true
-  ≡ sameSteps steps (record { subband = sb; channel = ch; both = two }) (cond two (0 ∷ 1 ∷ []) (ch ∷ []))
-agree-by steps sb ch false h = rw (same (getD steps (slotOf ch sb) 0))
-agree-by steps sb zero true h =
-    let a = getD steps (slotOf 0 sb) 0 in
-    let b = getD steps (slotOf 1 sb) 0 in
-    ap (λ (k : ℕ). eqb b (getD steps k 0)) (sym (zero-add sb)) ∙ sym (ap₂ _&&_ (same a) (and-true (eqb b a)))
-agree-by steps sb (suc zero) true h =
-    let a = getD steps (slotOf 0 sb) 0 in
-    let b = getD steps (slotOf 1 sb) 0 in
-    ap (λ (k : ℕ). eqb b (getD steps k 0)) (sym (zero-add sb)) ∙ turned b a ∙ sym (ap (λ (t : Bool). eqb a b && t) (and-true (eqb b b) ∙ same b) ∙ and-true (eqb a b))
-agree-by steps sb (suc (suc ch)) true h = absurd (omega arith)
 
 held-by : (steps : List ℕ) (sb ch : ℕ) → ch < 2 → cond (eqb ch 0) (getD steps sb 0) (getD steps (32 + sb) 0) ≡ getD steps (slotOf ch sb) 0
 held-by steps sb zero h = ap (λ (k : ℕ). getD steps k 0) (sym (zero-add sb))
@@ -102,7 +73,7 @@ module _ (l : Layout) (r : SideInfo) (x : AllocationField) (channel : x .channel
   second = getD (r .steps) (32 + x .subband) 0
 
   agree-is : agree x first second ≡ sharedAsked r x .yes
-  agree-is = agree-by (r .steps) (x .subband) (x .channel) (x .both) channel
+  agree-is = shared-is r x channel
 
   held-is : held x first second ≡ fieldSteps (r .steps) x
   held-is = held-by (r .steps) (x .subband) (x .channel) channel

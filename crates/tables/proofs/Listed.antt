@@ -7,7 +7,7 @@ use native.Mathlib.Nat.{le-of-suc-le-suc, not-suc-le-zero, eq-or-lt-of-le, zero-
 use native.Mathlib.Decide.{decLt}
 use native.Mathlib.Numerals.{add-one}
 use native.Mathlib.Omega.{arith}
-use lib.ListN.{length, getD, set, List·getD-append}
+use lib.ListN.{length, getD, set, replicate, length-replicate, getD-replicate, List·getD-append, List·getD-eq-default}
 use lib.Seq.{ext-getD, getD-set-same, getD-set-other, getD-append-add}
 use Rattle.tables.specs.Listed.{tabulate}
 
@@ -16,6 +16,14 @@ module _ {A : Type 0} where
   tabulated zero f k d h = absurd (not-suc-le-zero h)
   tabulated (suc n) f zero d h = refl
   tabulated (suc n) f (suc k) d h = tabulated n (λ k. f (suc k)) k d (le-of-suc-le-suc h)
+
+  -- a list of one value alone
+  pub blank : (n : ℕ) (d : A) (k : ℕ) → getD (replicate n d) k d ≡ d
+  blank n d k = go (decLt k n)
+    where
+      go : Dec (k < n) → getD (replicate n d) k d ≡ d
+      go (yes h) = getD-replicate n k d d h
+      go (no h) = List·getD-eq-default (replicate n d) d {n = k} (rw (length-replicate n d) (omega arith))
 
   pub length-tabulate : (n : ℕ) (f : ℕ → A) → length (tabulate n f) ≡ n
   length-tabulate zero f = refl

@@ -1,5 +1,6 @@
 -- A table's rule, proved at every entry by one test that antt computes over the whole table.
-use mathlib.Core.Bool.{Bool, true, false, _&&_}
+use mathlib.Core.Path.{_≡_, refl, sym}
+use mathlib.Core.Bool.{Bool, true, false, _&&_, true≢false}
 use mathlib.Core.List.{List, [], _∷_}
 use Prim.Native.Nat.{ℕ, zero, suc, _<_}
 use native.Mathlib.Nat.{le-of-suc-le-suc, not-suc-le-zero}
@@ -15,6 +16,11 @@ first false b t = t
 pub second : (a b : Bool) → T (a && b) → T b
 second true b t = t
 second false b t = absurd t
+
+-- the same of a test's answer
+pub both-true : (a b : Bool) → (a && b) ≡ true → (a ≡ true) × (b ≡ true)
+both-true true b e = (refl, e)
+both-true false b e = absurd (true≢false (sym e))
 
 -- ---- the same test at each number below a bound
 

@@ -25,6 +25,12 @@ module _ {A : Type 0} where
   past (x ∷ xs) zero h = absurd (not-suc-le-zero h)
   past (x ∷ xs) (suc i) h = past xs i (le-of-suc-le-suc h)
 
+  -- what is there is the entry of its number
+  pub there-only : (xs : List A) (i : ℕ) (x d : A) → getElem? xs i ≡ some x → (i < length xs) × (getD xs i d ≡ x)
+  there-only [] i x d e = absurd (Option·none-ne-some x e)
+  there-only (y ∷ xs) zero x d e = (zero-lt-suc (length xs), Option·some-injective y x e)
+  there-only (y ∷ xs) (suc i) x d e = let r = there-only xs i x d e in (suc-le-suc (r .0), r .1)
+
   -- ---- the first that passes: none before it does
 
   pub place-found : (f : A → Bool) (xs : List A) (i : ℕ) (d : A) → i < length xs → ((k : ℕ) → k < i → f (getD xs k d) ≡ false)

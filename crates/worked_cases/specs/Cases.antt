@@ -29,6 +29,8 @@ use Rattle.side_info_writer.specs.declared.WrittenSideInfo.{WrittenSideInfo}
 use Rattle.side_info_writer.specs.Written.{writtenOf}
 use Rattle.side_info_reading.specs.declared.ReadSideInfo.{ReadSideInfo}
 use Rattle.side_info_reading.specs.Read.{readOf}
+use Rattle.record_check.specs.declared.RecordCheck.{RecordCheck}
+use Rattle.record_check.specs.Check.{checkOf}
 
 -- ---- what is asked, and what is answered
 
@@ -48,6 +50,8 @@ pub data Question : Type 0 where
   allocation : FrameHeader → Ratios → ℕ → Question
   -- its side information, written from steps, scfsi and scalefactor indices
   sideInformation : FrameHeader → List ℕ → List ScfsiSlot → List ℕ → Question
+  -- whether such a record hangs together
+  recordCheck : FrameHeader → List ℕ → List ScfsiSlot → List ℕ → Question
   -- the side information at the front of bytes
   sideInformationIn : FrameHeader → List ℕ → Question
   -- the indices used for three scalefactor indices
@@ -66,6 +70,8 @@ pub data Answer : Type 0 where
   allocated : ℕ → List ℕ → ℕ → ℕ → ℕ → ℕ → Answer
   -- of side information: the answer's number, the bytes, the bits used
   bits : ℕ → List ℕ → ℕ → Answer
+  -- of a check: the answer's number, the subband, the channel
+  named : ℕ → ℕ → ℕ → Answer
   -- of side information that is read: the answer's number, the steps, the scfsi codes, the scalefactor indices, the bits used
   found : ℕ → List ℕ → List ℕ → List ℕ → ℕ → Answer
   -- scalefactor indices
@@ -79,6 +85,9 @@ ofAllocation a = allocated (a .number) (a .audio .«nb_steps») (a .left) (a .cb
 
 abbrev ofWritten : WrittenSideInfo → Answer
 ofWritten w = bits (w .number) (w .bytes) (w .«bits_used»)
+
+abbrev ofCheck : RecordCheck → Answer
+ofCheck c = named (c .number) (c .subband) (c .channel)
 
 abbrev ofRead : ReadSideInfo → Answer
 ofRead r = found (r .number) (r .«nb_steps») (map (λ s. codeOf (s .scfsi)) (r .scfsi)) (r .scalefactor) (r .«bits_used»)
@@ -95,6 +104,7 @@ answerTo smr (bytes h) = sized (frameSize h .answer) (frameSize h .bytes)
 answerTo smr (budget h) = ofBudget (budgetOf (plain h 0))
 answerTo smr (allocation h ratios banc) = ofAllocation (allocationOf (plain h banc) (rowsOf smr ratios))
 answerTo smr (sideInformation h steps scfsi scalefactors) = ofWritten (writtenOf h (sideInfo steps scfsi scalefactors))
+answerTo smr (recordCheck h steps scfsi scalefactors) = ofCheck (checkOf h (sideInfo steps scfsi scalefactors))
 answerTo smr (sideInformationIn h captured) = ofRead (readOf h captured)
 answerTo smr (used a b c) = indices (selection a b c .used)
 answerTo smr (index x) = indices (pickOf x ∷ [])
@@ -237,6 +247,19 @@ cases =
     ∷ case (sideInformationIn (frame false 48_000 64_000 JointStereo true) (0 ∷ 0 ∷ 0 ∷ 4 ∷ 0 ∷ 177 ∷ 193 ∷ [])) (nothingFound 9)
     -- the header is asked first
     ∷ case (sideInformationIn (frame false 48_000 64_999 SingleChannel true) []) (nothingFound 16)
+    -- a record checked: steps in the second channel of a single one, and behind the table's eight subbands, are 17; idle slots' indices are free, and so
+    -- are, in this check, steps that the row lacks and an index of 63
+    ∷ case (recordCheck mono (3 ∷ idle 63) (allWith ShareAll) (5 ∷ 5 ∷ 5 ∷ 1 ∷ 2 ∷ 3 ∷ idle 186)) (named 0 0 0)
+    ∷ case (recordCheck mono (4 ∷ idle 63) (allWith ShareAll) (indexed 63)) (named 0 0 0)
+    ∷ case (recordCheck mono (idle 32 ++ (3 ∷ idle 31)) (allWith ShareAll) (indexed 5)) (named 17 0 1)
+    ∷ case (recordCheck mono (idle 8 ++ (3 ∷ idle 55)) (allWith ShareAll) (indexed 5)) (named 17 8 0)
+    -- joint stereo with bound 4: the channels of subband 4 differ, which comes before indices of its first channel that contradict their scfsi, but behind
+    -- those of subband 3; where the channels are equal, the indices of the second
+    ∷ case (recordCheck joint (around4 0 3 5) (allWith ShareAll) (idle 12 ++ (1 ∷ idle 179))) (named 6 4 0)
+    ∷ case (recordCheck joint (around4 3 3 5) (allWith ShareAll) (idle 9 ++ (1 ∷ idle 182))) (named 18 3 0)
+    ∷ case (recordCheck joint (around4 3 3 3) (allWith ShareAll) (idle 110 ++ (1 ∷ idle 81))) (named 18 4 1)
+    -- the header is asked first
+    ∷ case (recordCheck (frame false 48_000 64_999 SingleChannel true) (idle 8 ++ (3 ∷ idle 55)) (allWith ShareAll) (indexed 5)) (named 16 0 0)
     -- the scalefactor indices 10, 12, 11 become one; 0, 3, 3 stay; 0, 2, 4 become the smallest
     ∷ case (used 10 12 11) (indices (10 ∷ 10 ∷ 10 ∷ []))
     ∷ case (used 0 3 3) (indices (0 ∷ 3 ∷ 3 ∷ []))

@@ -1,7 +1,9 @@
-//! What is timed: seven functions, on the headers and inputs of an encoder.
+//! What is timed: eight functions, on the headers and inputs of an encoder.
 
 use crate::bench_inputs::{FRAME_LEN, HEADS, frames, ratio_sets};
 use crate::case::Memory;
+use crate::check_bench::time_checks;
+use crate::check_functions::CHECK_RECORD;
 use crate::header_functions::call_with_head;
 use crate::library::*;
 use crate::read_bench::time_reading;
@@ -27,7 +29,7 @@ const BATCH: usize = 256;
 
 type Timed = (&'static str, fn() -> Vec<Row>);
 
-const TIMED: [Timed; 8] = [
+const TIMED: [Timed; 9] = [
     ("allocate_bits", || by_header(ratio_sets(), time_allocation)),
     ("demand_bits", || by_header(ratio_sets(), time_demand)),
     ("compute_scalefactors", || {
@@ -41,6 +43,7 @@ const TIMED: [Timed; 8] = [
     ("select_scfsi", time_selections),
     (SIDE_INFO, time_side_info),
     (READ_SIDE_INFO, time_reading),
+    (CHECK_RECORD, time_checks),
 ];
 
 /// All, or those whose names begin with one of the words; false where a word names none.
@@ -55,10 +58,18 @@ pub fn bench(words: &[String]) -> bool {
     }
     for (name, rows) in TIMED {
         if words.is_empty() || words.iter().any(|word| name.starts_with(word.as_str())) {
-            println!("{}", table(name, &rows()));
+            println!("{}", table(name, beside(name), &rows()));
         }
     }
     true
+}
+
+/// What is timed beside the library: the Rust has no check of a record.
+fn beside(name: &str) -> &str {
+    match name {
+        CHECK_RECORD => "the oracle's own check",
+        _ => "Rust",
+    }
 }
 
 fn by_header(sets: Vec<Vec<u64>>, time: fn(&Head, &[u64]) -> Times) -> Vec<Row> {

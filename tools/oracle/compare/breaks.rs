@@ -1,8 +1,9 @@
 //! Wrong answers on purpose: one for each function, some about the ladder, one for each rule of an
-//! allocation, and those about side information, written and read.
+//! allocation, and those about side information, written, read and checked.
 
 use crate::allocation_functions::ALLOCATE;
 use crate::case::{Case, Function, OUT_OF_RANGE, Reply, SHORT_SLICE};
+use crate::check_breaks;
 use crate::header_functions::{BANC, refusal_on_ladder};
 use crate::judge::{ANSWER, Break};
 use crate::layout::Field;
@@ -27,6 +28,7 @@ pub fn breaks(functions: &[Function]) -> Vec<Break> {
     breaks.extend(LADDER);
     breaks.extend(side_info_breaks::BREAKS);
     breaks.extend(read_breaks::BREAKS);
+    breaks.extend(check_breaks::BREAKS);
     breaks.extend(of_allocations());
     breaks
 }

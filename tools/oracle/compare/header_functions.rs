@@ -55,7 +55,7 @@ const fn out(width: usize, count: usize) -> Out {
 pub const FUNCTIONS: [Function; 4] = [
     Function {
         name: "select_table",
-        share: 4,
+        share: 3,
         arguments: HEAD,
         ins: &[],
         outs: &[out(4, 1)],
@@ -76,7 +76,7 @@ pub const FUNCTIONS: [Function; 4] = [
     },
     Function {
         name: "frame_size_bytes",
-        share: 4,
+        share: 3,
         arguments: HEAD,
         ins: &[],
         outs: &[out(8, 1)],

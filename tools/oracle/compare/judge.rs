@@ -3,8 +3,8 @@
 use crate::allocation_functions::{self, ALLOCATE};
 use crate::case::{Case, Function, Reply};
 use crate::{
-    header_functions, read_functions, rules, sample_functions, scalefactor_functions,
-    side_info_functions, table_functions,
+    check_functions, header_functions, read_functions, rules, sample_functions,
+    scalefactor_functions, side_info_functions, table_functions,
 };
 
 /// Every function of the library.
@@ -17,6 +17,7 @@ pub fn functions() -> Vec<Function> {
     functions.extend(sample_functions::FUNCTIONS);
     functions.extend(side_info_functions::FUNCTIONS);
     functions.extend(read_functions::FUNCTIONS);
+    functions.extend(check_functions::FUNCTIONS);
     functions
 }
 

@@ -39,6 +39,10 @@ with_head! {
         scfsi: *mut u8, scfsi_length: usize, index: *mut u8, index_length: usize,
         out: *mut u32, length: usize
     );
+    folgrist_check_record(
+        steps: *const u32, steps_count: usize, scfsi: *const u8, scfsi_count: usize,
+        index: *const u8, index_count: usize, out: *mut u32, length: usize
+    );
 }
 
 unsafe extern "C" {

@@ -5,6 +5,9 @@ mod bench;
 mod bench_inputs;
 mod breaks;
 mod case;
+mod check_bench;
+mod check_breaks;
+mod check_functions;
 mod header_functions;
 mod judge;
 mod layout;
@@ -33,7 +36,7 @@ use std::env;
 use std::process::exit;
 
 const USAGE: &str = "words: compare --cases N --seed S [--from CASE] [--only NAME,..] [--break NAME], \
-                     selfcheck [--seed S] [--show], bench [NAME..]";
+                     selfcheck [--seed S] [--only NAME,..] [--show], bench [NAME..]";
 
 struct Command {
     cases: Cases,
@@ -104,12 +107,17 @@ fn main() {
 /// False where a difference is found, or missed in a check of the comparison itself.
 fn ask(checks_itself: bool, words: &[String]) -> bool {
     let functions = judge::functions();
-    let breaks = breaks::breaks(&functions);
+    let mut breaks = breaks::breaks(&functions);
     let Some(command) = parse(words, &functions) else {
         stop(USAGE);
     };
     run::tell_halts();
     if checks_itself {
+        let named = |name: &str| {
+            let mut only = command.only.iter();
+            command.only.is_empty() || only.any(|&at| functions[at].name == name)
+        };
+        breaks.retain(|broken| named(broken.function));
         selfcheck::selfcheck(&functions, &breaks, command.cases.seed, command.shown)
     } else {
         let broken = command.broken.map(|name| named(&name, &breaks));

@@ -255,7 +255,7 @@ fn refuse_last_index(function: &Function, _: &Case, reply: &mut Reply) {
 }
 
 /// As if only the bits were looked at that flags, mode and extension have.
-fn cut_flags(function: &Function, case: &Case, reply: &mut Reply) {
+pub fn cut_flags(function: &Function, case: &Case, reply: &mut Reply) {
     if reply.number == OUT_OF_RANGE {
         let mut other = case.clone();
         [LSF, PADDING, PROTECTION_BIT]

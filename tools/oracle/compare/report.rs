@@ -85,7 +85,7 @@ impl Counts {
 
 /// One line for each function that was asked.
 pub fn table(functions: &[Function], counts: &[Counts]) -> String {
-    let columns = [0, 1, 2, 4, 5, 6, 7, 8, 9, 10, 14, 16, 97, 98];
+    let columns = [0, 1, 2, 4, 5, 6, 7, 8, 9, 10, 14, 16, 17, 18, 97, 98];
     let names = columns.map(|number| format!("answer {number}")).join(" | ");
     let mut text = format!(
         "| function | cases | {names} |\n|---|{}\n",

@@ -19,7 +19,7 @@ const fn double(name: &'static str) -> Argument {
 pub const FUNCTIONS: [Function; 2] = [
     Function {
         name: "quantize_sample",
-        share: 4,
+        share: 3,
         arguments: &[STEPS, double("sample")],
         ins: &[],
         outs: &[Out {
@@ -42,7 +42,7 @@ pub const FUNCTIONS: [Function; 2] = [
     },
     Function {
         name: "write_triplet",
-        share: 4,
+        share: 3,
         arguments: &[STEPS, double("a"), double("b"), double("c")],
         ins: &[],
         outs: &[Out {

@@ -30,7 +30,7 @@ const fn byte(name: &'static str) -> Argument {
 pub const FUNCTIONS: [Function; 4] = [
     Function {
         name: "pick_scalefactor_index",
-        share: 4,
+        share: 3,
         arguments: &[Argument {
             name: "max_abs",
             sort: Sort::Double,
@@ -45,7 +45,7 @@ pub const FUNCTIONS: [Function; 4] = [
     },
     Function {
         name: "extract_scalefactor_index",
-        share: 4,
+        share: 3,
         arguments: &[],
         ins: &[doubles(GRANULE_LEN)],
         outs: &[bytes(1)],
@@ -87,7 +87,7 @@ pub const FUNCTIONS: [Function; 4] = [
     },
     Function {
         name: "select_scfsi",
-        share: 4,
+        share: 3,
         arguments: &[byte("a"), byte("b"), byte("c")],
         ins: &[],
         outs: &[bytes(9)],

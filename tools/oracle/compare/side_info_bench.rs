@@ -15,13 +15,13 @@ use questions::side_info::{BYTES, Record, written};
 use std::hint::black_box;
 
 /// The slices of a call.
-struct Slices {
-    steps: Vec<u32>,
-    scfsi: Vec<u8>,
-    index: Vec<u8>,
+pub struct Slices {
+    pub steps: Vec<u32>,
+    pub scfsi: Vec<u8>,
+    pub index: Vec<u8>,
 }
 
-fn slices_of(record: &Record) -> Slices {
+pub fn slices_of(record: &Record) -> Slices {
     let bytes = |numbers: &[u64]| numbers.iter().map(|&number| number as u8).collect();
     Slices {
         steps: record.steps.iter().map(|&steps| steps as u32).collect(),

@@ -115,7 +115,7 @@ fn look_at_sent_alone(function: &Function, case: &Case, reply: &mut Reply) {
 }
 
 /// As if a code above 3 were cut to its two bits.
-fn cut_codes(function: &Function, case: &Case, reply: &mut Reply) {
+pub fn cut_codes(function: &Function, case: &Case, reply: &mut Reply) {
     if reply.number == OUT_OF_RANGE {
         answer_as_to(function, case, reply, |other, slot| {
             other.ins[1][slot] &= 3;

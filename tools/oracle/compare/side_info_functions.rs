@@ -18,17 +18,20 @@ const fn read(name: &'static str, sort: Sort, width: usize, count: usize) -> In 
     }
 }
 
+/// The slices of a record.
+pub const RECORD: [In; 3] = [
+    read("steps", Sort::Whole, 4, SLOTS),
+    read("scfsi", Sort::UpTo(3), 1, SLOTS),
+    read("indices", Sort::Whole, 1, INDICES),
+];
+
 pub const SIDE_INFO: &str = "write_side_info";
 
 pub const FUNCTIONS: [Function; 1] = [Function {
     name: SIDE_INFO,
     share: 10,
     arguments: HEAD,
-    ins: &[
-        read("steps", Sort::Whole, 4, SLOTS),
-        read("scfsi", Sort::UpTo(3), 1, SLOTS),
-        read("indices", Sort::Whole, 1, INDICES),
-    ],
+    ins: &RECORD,
     outs: &[
         Out {
             name: "bytes",
@@ -88,6 +91,10 @@ pub fn draw_side_head(case: &mut Case, random: &mut Random) {
 fn draw_side_info(case: &mut Case, random: &mut Random) {
     draw_side_head(case, random);
     let record = draw_record(&case.numbers[..7], random);
+    put_record(case, &record);
+}
+
+pub fn put_record(case: &mut Case, record: &Record) {
     case.ins[0].extend(record.steps);
     case.ins[1].extend(record.scfsi);
     case.ins[2].extend(record.index);

@@ -80,7 +80,7 @@ pub const FUNCTIONS: [Function; 6] = [
     },
     Function {
         name: "allocation_index",
-        share: 4,
+        share: 3,
         arguments: &[TABLE, whole("sb"), STEPS],
         ins: &[],
         outs: &[out(1)],

@@ -53,10 +53,11 @@ fn time(passes: usize, pass: &mut impl FnMut()) -> Duration {
     start.elapsed()
 }
 
-/// A table of one function; the last line has the geometric mean of the rows' ratios.
-pub fn table(name: &str, rows: &[Row]) -> String {
+/// A table of one function, with what stands beside the library; the last line has the geometric
+/// mean of the rows' ratios.
+pub fn table(name: &str, beside: &str, rows: &[Row]) -> String {
     let mut text = format!(
-        "| `{name}` | Rust, ns | library, ns | Rust / library | least over the sets |\n\
+        "| `{name}` | {beside}, ns | library, ns | {beside} / library | least over the sets |\n\
          |---|--:|--:|--:|--:|\n"
     );
     let mut logarithms = 0.0;

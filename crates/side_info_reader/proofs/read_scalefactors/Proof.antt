@@ -5,12 +5,13 @@ use mathlib.Core.Bool.{Bool}
 use mathlib.Core.List.{List}
 use lib.ListN.{length, getD, take, drop}
 use borrow.Author.Needs.{needs}
+use Rattle.side_info.specs.SideInfo.{idleScfsi}
 use Rattle.active_slots.specs.Active.{listed}
 use Rattle.active_slots.proofs.ActiveLaws.{listed-at, listed-here, listed-over}
 use Rattle.audio_data.specs.declared.ScfsiSlot.{ScfsiSlot}
 use Rattle.audio_data.specs.Scfsi.{Three, three}
 use Rattle.side_info_reading.specs.Taken.{Taken, eachTaken}
-use Rattle.side_info_reading.specs.Reading.{threeTaken, inGranules, idleScfsi}
+use Rattle.side_info_reading.specs.Reading.{threeTaken, inGranules}
 use Rattle.side_info_reading.proofs.LaidLaws.{length-laid}
 use Rattle.side_info_reading.proofs.TakenLaws.{each-end}
 use Rattle.side_info_reader.specs.Cursor.{ahead, Steady}

@@ -1,0 +1,4 @@
+pub mod SlotLaws
+pub mod TurnLaws
+pub mod PromiseLaws
+pub mod PassLaws
