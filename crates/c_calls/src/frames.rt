@@ -150,8 +150,8 @@ fn write_side_info(h: Head) {
     read_side_info(h, &bytes);
 }
 
-// From what was written. What is read is checked, and again with steps in subband 28: joint stereo shares it, the single channel does not carry it, and that
-// of LSF does.
+// From what was written. What is read is written in its one form, with other scfsi, which gives the same bytes; and it is checked, and again with steps in
+// subband 28: joint stereo shares it, the single channel does not carry it, and that of LSF does.
 fn read_side_info(h: Head, bytes: &[u8]) {
     let mut steps = [9u32; 64];
     let mut scfsi = [9u8; 64];
@@ -175,9 +175,31 @@ fn read_side_info(h: Head, bytes: &[u8]) {
     show::bytes(b"read_side_info, scfsi", number, &scfsi);
     show::bytes(b"read_side_info, indices", number, &indices);
     show::words(b"read_side_info, out", number, &out);
+    write_side_info_canonical(h, &steps, &[0; 64], &indices);
     check_record(h, &steps, &scfsi, &indices);
     steps[28] = 3;
     check_record(h, &steps, &scfsi, &indices);
+}
+
+fn write_side_info_canonical(h: Head, steps: &[u32], scfsi: &[u8], indices: &[u8]) {
+    let mut bytes = [9u8; 174];
+    let mut out = [9u32; 1];
+    let number = side_info::folgrist_write_side_info_canonical(
+        h.lsf,
+        h.bit_rate,
+        h.sample_rate,
+        h.padding,
+        h.protection_bit,
+        h.mode,
+        h.mode_extension,
+        steps,
+        scfsi,
+        indices,
+        &mut bytes,
+        &mut out,
+    );
+    show::bytes(b"write_side_info_canonical", number, &bytes);
+    show::words(b"write_side_info_canonical, out", number, &out);
 }
 
 fn check_record(h: Head, steps: &[u32], scfsi: &[u8], indices: &[u8]) {

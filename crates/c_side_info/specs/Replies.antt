@@ -6,6 +6,7 @@ use Rattle.side_info_writer.specs.declared.WrittenSideInfo.{WrittenSideInfo}
 use Rattle.side_info_writer.specs.Written.{writtenOf}
 use Rattle.record_check.specs.declared.RecordCheck.{RecordCheck}
 use Rattle.record_check.specs.Check.{checkOf}
+use Rattle.canonical_form.specs.Canonical.{canonicalOf}
 use Rattle.c_answers.specs.Answers.{Reply, reply}
 use Rattle.c_side_info.specs.Arguments.{Frame}
 
@@ -21,6 +22,12 @@ bytesWritten f = bytesIn (writtenOf (f .header) (f .side))
 
 abbrev pub bitsWritten : Frame → Reply ℕ
 bitsWritten f = bitsIn (writtenOf (f .header) (f .side))
+
+abbrev pub bytesCanonical : Frame → Reply ℕ
+bytesCanonical f = bytesIn (canonicalOf (f .header) (f .side))
+
+abbrev pub bitsCanonical : Frame → Reply ℕ
+bitsCanonical f = bitsIn (canonicalOf (f .header) (f .side))
 
 -- a checker's answer: the subband and the channel that it is about
 abbrev pub placeIn : RecordCheck → Reply ℕ

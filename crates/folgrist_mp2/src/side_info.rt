@@ -6,7 +6,7 @@ ghost use lib.ListN.{length};
 ghost use Rattle.c_answers.specs.Answers.{asked, answered, Answers};
 ghost use Rattle.c_answers.specs.Arguments.{headerIn};
 ghost use Rattle.c_side_info.specs.Arguments.{frameMeant};
-ghost use Rattle.c_side_info.specs.Replies.{bytesWritten, bitsWritten, placeChecked};
+ghost use Rattle.c_side_info.specs.Replies.{bytesWritten, bitsWritten, bytesCanonical, bitsCanonical, placeChecked};
 ghost use Rattle.c_side_info_read.specs.Replies.{short, stepsRead, scfsiRead, indicesRead, bitsRead};
 use c_answers::arguments::HeaderNumbers;
 
@@ -42,6 +42,47 @@ pub extern "C" fn folgrist_write_side_info(
         (now (out .entry)) r (now (out .exit)) ⌝ }
 {
     c_side_info::write_side_info(
+        HeaderNumbers { lsf, bit_rate, sample_rate, padding, protection_bit, mode, mode_extension },
+        steps,
+        scfsi,
+        index,
+        bytes,
+        out,
+    )
+}
+
+// The same in its one form: each active slot with the scfsi that sends the fewest indices.
+#[no_mangle]
+pub extern "C" fn folgrist_write_side_info_canonical(
+    lsf: u8,
+    bit_rate: u32,
+    sample_rate: u32,
+    padding: u8,
+    protection_bit: u8,
+    mode: u8,
+    mode_extension: u8,
+    steps: &[u32],
+    scfsi: &[u8],
+    index: &[u8],
+    bytes: &mut [u8],
+    out: &mut [u32],
+) -> u32
+    ensures { λ r. ⌜ Answers
+        (answered
+          (frameMeant (ltb (length (now (bytes .entry))) 174 || ltb (length (now (out .entry))) 1)
+            lsf «bit_rate» «sample_rate» padding «protection_bit» mode «mode_extension»
+            (now (steps .entry)) (now (scfsi .entry)) (now (index .entry)))
+          bytesCanonical)
+        (now (bytes .entry)) r (now (bytes .exit)) ⌝ }
+    ensures { λ r. ⌜ Answers
+        (answered
+          (frameMeant (ltb (length (now (bytes .entry))) 174 || ltb (length (now (out .entry))) 1)
+            lsf «bit_rate» «sample_rate» padding «protection_bit» mode «mode_extension»
+            (now (steps .entry)) (now (scfsi .entry)) (now (index .entry)))
+          bitsCanonical)
+        (now (out .entry)) r (now (out .exit)) ⌝ }
+{
+    c_side_info::write_side_info_canonical(
         HeaderNumbers { lsf, bit_rate, sample_rate, padding, protection_bit, mode, mode_extension },
         steps,
         scfsi,

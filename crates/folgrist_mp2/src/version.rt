@@ -4,14 +4,14 @@ ghost use Rattle.c_answers.specs.Version.{version};
 
 const MAJOR: u32 = 1;
 
-const MINOR: u32 = 4;
+const MINOR: u32 = 5;
 
 const PATCH: u32 = 0;
 
 // The three parts as one number: 10000 * major + 100 * minor + patch.
 #[no_mangle]
 pub extern "C" fn folgrist_version() -> u32
-    ensures { λ r. ⌜ r ≡ version 1 4 0 ⌝ }
+    ensures { λ r. ⌜ r ≡ version 1 5 0 ⌝ }
 {
     10_000 * MAJOR + 100 * MINOR + PATCH
 }

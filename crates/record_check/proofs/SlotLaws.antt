@@ -7,6 +7,7 @@ use Prim.Native.Nat.{ℕ, _<_}
 use native.Mathlib.Decide.{decLt}
 use native.Mathlib.Omega.{arith}
 use lib.Dec.{T, eqb}
+use lib.Ieee.Bits.{is-true}
 use lib.ListN.{length, getD}
 use borrow.Author.Tests.{eqb-true, eqb-false}
 use Rattle.tables.specs.Search.{entryAt, oneOf}
@@ -54,7 +55,11 @@ module _ (l : Layout) where
       let p = at-place (serves (channelIn slot) (subbandIn slot)) (fieldsOf l) f e in
       p .1 ∙ ap some (sym (there-only (fieldsOf l) f (p .0) (own 0 0) (p .1) .1))
 
-  -- every slot that it serves has it
+  -- its first channel is one that it serves
+  own-channel : (f : ℕ) → f < length (fieldsOf l) → oneOf (served (fieldIn (fieldsOf l) f)) (fieldIn (fieldsOf l) f .channel) ≡ true
+  own-channel f h = is-true _ (serves-first l f h)
+
+  -- every slot that it serves has it, the first among them
   serves-slot : (f : ℕ) → f < length (fieldsOf l) → (ch : ℕ) → oneOf (served (fieldIn (fieldsOf l) f)) ch ≡ true
     → fieldServing l (slotOf ch (fieldIn (fieldsOf l) f .subband)) ≡ some f
   serves-slot f h ch t =
@@ -63,6 +68,9 @@ module _ (l : Layout) where
       let c : channelIn (slotOf ch sb) ≡ ch = omega arith in
       let b : subbandIn (slotOf ch sb) ≡ sb = omega arith in
       ap₂ (servedBy l) c b ∙ served-once l f h ch (subst T (sym t) tt)
+
+  pub first-slot : (f : ℕ) → f < length (fieldsOf l) → fieldServing l (slotOf (fieldIn (fieldsOf l) f .channel) (fieldIn (fieldsOf l) f .subband)) ≡ some f
+  first-slot f h = serves-slot f h (fieldIn (fieldsOf l) f .channel) (own-channel f h)
 
 -- ---- question 6
 
@@ -81,19 +89,12 @@ module _ (l : Layout) (s : SideInfo) (f slot : ℕ) (e : fieldServing l slot ≡
       let same : g ≡ f = Option·some-injective g f (sym p ∙ e) in
       steps-of y other (q ∙ ap some same) ∙ sym (steps-of y slot e)
 
-  holds-shared : StepsShared l s slot → sharedAsked s x .yes ≡ true
+  pub holds-shared : StepsShared l s slot → sharedAsked s x .yes ≡ true
   holds-shared h =
       let v = serving l f slot e in
       let at : (ch : ℕ) → oneOf (served x) ch ≡ true → getD (s .steps) (slotOf ch (x .subband)) 0 ≡ getD (s .steps) slot 0 =
           λ ch t. h f (slotOf ch (x .subband)) e (serves-slot l f (v .here) ch t) in
-      all-same (s .steps) x (served x) (λ ch t. at ch t ∙ sym (at (x .channel) (first (serves-first l f (v .here)))))
-    where
-      first : T (oneOf (served x) (x .channel)) → oneOf (served x) (x .channel) ≡ true
-      first t = go (oneOf (served x) (x .channel)) t
-        where
-          go : (b : Bool) → T b → b ≡ true
-          go true t = refl
-          go false t = absurd t
+      all-same (s .steps) x (served x) (λ ch t. at ch t ∙ sym (at (x .channel) (own-channel l f (v .here))))
 
 -- ---- question 18
 

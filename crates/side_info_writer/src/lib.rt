@@ -25,7 +25,7 @@ use pen::Pen;
 // The bytes that hold the longest side information, 1388 bits.
 pub const SIDE_INFO_BYTES: usize = 174;
 
-// What `write_side_info` answers: the answer's number; the bytes, most significant bit first, with zeros behind the last bit that is used; and how many
+// What a writer of side information answers: the answer's number; the bytes, most significant bit first, with zeros behind the last bit that is used; and how many
 // bits are used. Beside a refusal every byte is 0, and no bit is used.
 pub struct WrittenSideInfo {
     pub number: u32,
@@ -64,8 +64,8 @@ fn blank() -> [u8; SIDE_INFO_BYTES]
     [0; SIDE_INFO_BYTES]
 }
 
-// A refusal.
-fn refused(number: u32) -> WrittenSideInfo
+// The answer of a refusal: its number, 174 zeros, no bits.
+pub fn refused(number: u32) -> WrittenSideInfo
     ensures { λ r. ⌜ r ≡ written number [] ⌝ }
 {
     let bytes = blank();

@@ -31,6 +31,7 @@ use Rattle.side_info_reading.specs.declared.ReadSideInfo.{ReadSideInfo}
 use Rattle.side_info_reading.specs.Read.{readOf}
 use Rattle.record_check.specs.declared.RecordCheck.{RecordCheck}
 use Rattle.record_check.specs.Check.{checkOf}
+use Rattle.canonical_form.specs.Canonical.{canonicalOf}
 
 -- ---- what is asked, and what is answered
 
@@ -50,6 +51,8 @@ pub data Question : Type 0 where
   allocation : FrameHeader → Ratios → ℕ → Question
   -- its side information, written from steps, scfsi and scalefactor indices
   sideInformation : FrameHeader → List ℕ → List ScfsiSlot → List ℕ → Question
+  -- the same in its one form
+  canonicalInformation : FrameHeader → List ℕ → List ScfsiSlot → List ℕ → Question
   -- whether such a record hangs together
   recordCheck : FrameHeader → List ℕ → List ScfsiSlot → List ℕ → Question
   -- the side information at the front of bytes
@@ -104,6 +107,7 @@ answerTo smr (bytes h) = sized (frameSize h .answer) (frameSize h .bytes)
 answerTo smr (budget h) = ofBudget (budgetOf (plain h 0))
 answerTo smr (allocation h ratios banc) = ofAllocation (allocationOf (plain h banc) (rowsOf smr ratios))
 answerTo smr (sideInformation h steps scfsi scalefactors) = ofWritten (writtenOf h (sideInfo steps scfsi scalefactors))
+answerTo smr (canonicalInformation h steps scfsi scalefactors) = ofWritten (canonicalOf h (sideInfo steps scfsi scalefactors))
 answerTo smr (recordCheck h steps scfsi scalefactors) = ofCheck (checkOf h (sideInfo steps scfsi scalefactors))
 answerTo smr (sideInformationIn h captured) = ofRead (readOf h captured)
 answerTo smr (used a b c) = indices (selection a b c .used)
@@ -260,6 +264,24 @@ cases =
     ∷ case (recordCheck joint (around4 3 3 3) (allWith ShareAll) (idle 110 ++ (1 ∷ idle 81))) (named 18 4 1)
     -- the header is asked first
     ∷ case (recordCheck (frame false 48_000 64_999 SingleChannel true) (idle 8 ++ (3 ∷ idle 55)) (allWith ShareAll) (indexed 5)) (named 16 0 0)
+    -- in the one form, whatever scfsi is given: one index where the three agree; two where the first two do, or the last two; three where the first and the last
+    -- alone do
+    ∷ case (canonicalInformation mono (3 ∷ idle 63) (allWith ThreePerGranule) (5 ∷ 5 ∷ 5 ∷ idle 189)) (bits 0 (16 ∷ 0 ∷ 0 ∷ 33 ∷ 64 ∷ idle 169) 34)
+    ∷ case (canonicalInformation mono (3 ∷ idle 63) (allWith ThreePerGranule) (5 ∷ 5 ∷ 62 ∷ idle 189)) (bits 0 (16 ∷ 0 ∷ 0 ∷ 17 ∷ 126 ∷ idle 169) 40)
+    ∷ case (canonicalInformation mono (3 ∷ idle 63) (allWith ThreePerGranule) (5 ∷ 62 ∷ 62 ∷ idle 189)) (bits 0 (16 ∷ 0 ∷ 0 ∷ 49 ∷ 126 ∷ idle 169) 40)
+    ∷ case (canonicalInformation mono (3 ∷ idle 63) (allWith ThreePerGranule) (5 ∷ 62 ∷ 5 ∷ idle 189)) (bits 0 (16 ∷ 0 ∷ 0 ∷ 1 ∷ 126 ∷ 20 ∷ idle 168) 46)
+    -- nor do idle slots make a difference
+    ∷ case (canonicalInformation mono (3 ∷ idle 63) (allWith ShareAll) (5 ∷ 5 ∷ 5 ∷ 1 ∷ 2 ∷ 63 ∷ idle 186)) (bits 0 (16 ∷ 0 ∷ 0 ∷ 33 ∷ 64 ∷ idle 169) 34)
+    -- the check's numbers come first: 17 of a slot behind the table, 6 and 18, each beside steps of a lower subband that its row lacks; 18 beside an index of 63
+    ∷ case (canonicalInformation mono (4 ∷ idle 7 ++ (3 ∷ idle 55)) (allWith ShareAll) (indexed 5)) (bits 17 (idle 174) 0)
+    ∷ case (canonicalInformation joint (around4 4 3 5) (allWith ShareAll) (indexed 5)) (bits 6 (idle 174) 0)
+    ∷ case (canonicalInformation joint (around4 4 3 3) (allWith ShareAll) (idle 110 ++ (1 ∷ idle 81))) (bits 18 (idle 174) 0)
+    ∷ case (canonicalInformation mono (3 ∷ idle 63) (allWith ShareAll) (0 ∷ 63 ∷ idle 190)) (bits 18 (idle 174) 0)
+    -- then 7, and then 8
+    ∷ case (canonicalInformation mono (3 ∷ 4 ∷ idle 62) (allWith ShareAll) (indexed 63)) (bits 7 (idle 174) 0)
+    ∷ case (canonicalInformation mono (3 ∷ idle 63) (allWith ShareAll) (indexed 63)) (bits 8 (idle 174) 0)
+    -- the header is asked first
+    ∷ case (canonicalInformation (frame false 48_000 64_999 SingleChannel true) (4 ∷ idle 7 ++ (3 ∷ idle 55)) (allWith ShareAll) (indexed 63)) (bits 16 (idle 174) 0)
     -- the scalefactor indices 10, 12, 11 become one; 0, 3, 3 stay; 0, 2, 4 become the smallest
     ∷ case (used 10 12 11) (indices (10 ∷ 10 ∷ 10 ∷ []))
     ∷ case (used 0 3 3) (indices (0 ∷ 3 ∷ 3 ∷ []))

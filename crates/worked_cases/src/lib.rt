@@ -5,5 +5,5 @@ ghost use Rattle.worked_cases.specs.Cases.{CasesHold};
 pub fn count() -> usize
     ensures { λ r. ⌜ CasesHold r ⌝ }
 {
-    74
+    86
 }

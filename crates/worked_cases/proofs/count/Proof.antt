@@ -31,6 +31,8 @@ use Rattle.side_info.specs.SideInfo.{activeSlots, recordAsked}
 use Rattle.side_info_writer.specs.Written.{writtenOf}
 use Rattle.side_info_reading.specs.Read.{readOf}
 use Rattle.record_check.specs.Check.{checkOf}
+use Rattle.canonical_form.specs.Fewest.{chosen}
+use Rattle.canonical_form.specs.Canonical.{canonicalOf}
 use Rattle.worked_cases.specs.Cases.{cases, any, allocation, allocated, mono, idle, answerTo, Hold}
 use Rattle.worked_cases.proofs.count.Statement.{statement}
 use Rattle.worked_cases.proofs.count.Tie as tie
@@ -65,7 +67,7 @@ unfolding cases Hold answerTo oneOf onLadder ladder lsfLadder tableOf nbalOf lay
 first-case smr = refl
 
 other-cases : Hold (drop 2 cases)
-unfolding cases Hold answerTo writtenOf readOf checkOf unpacked valueOf flatMap bitsOf slotsOf activeSlots indexOf recordAsked headerAsked ended oneOf onLadder ladder lsfLadder tableOf nbalOf rowOf sampleBits snrOf layoutOf fieldsOf budgetOf frameSize filler allocationOf selection scalefactors pickOf le sub
+unfolding cases Hold answerTo writtenOf readOf checkOf canonicalOf chosen unpacked valueOf flatMap bitsOf slotsOf activeSlots indexOf recordAsked headerAsked ended oneOf onLadder ladder lsfLadder tableOf nbalOf rowOf sampleBits snrOf layoutOf fieldsOf budgetOf frameSize filler allocationOf selection scalefactors pickOf le sub
 other-cases smr = refl
 
 holds : Hold cases

@@ -1,12 +1,13 @@
--- `c_side_info::write_side_info` meets its contract: the reply is what `write_side_info` answers for the record that is read.
+-- `c_side_info::write` meets its contract: the reply is what the writer answers for the record that is read.
 use mathlib.Core.Path.{refl, sym, ap, _∙_}
 use borrow.Author.Needs.{needs}
 use Rattle.c_answers.proofs.AnswerLaws.{both-long, refused-by, replied}
 use Rattle.c_answers.specs.Arguments.{headerNumbered, headerFrom}
-use Rattle.c_side_info.specs.Replies.{bytesIn, bitsIn, bytesWritten, bitsWritten}
+use Rattle.c_side_info.specs.Parts.{bytesBy, bitsBy}
+use Rattle.c_side_info.specs.Replies.{bytesIn, bitsIn}
 use Rattle.c_side_info.proofs.RecordLaws.{none-short, no-record, a-record}
-use Rattle.c_side_info.proofs.write_side_info.Statement.{statement}
-use Rattle.c_side_info.proofs.write_side_info.Tie as tie
+use Rattle.c_side_info.proofs.write.Statement.{statement}
+use Rattle.c_side_info.proofs.write.Tie as tie
 
 record-given-requires : tie.Need-record-given-requires
 record-given-requires c κs = search needs
@@ -36,8 +37,8 @@ returns-2 c =
         (sym (given .header-given .ensures) ∙ ap headerFrom (c .enum-told .given .1)) in
     (refused-by _ _ _ _ e, refused-by _ _ _ _ e)
 
-write-side-info-requires : tie.Need-write-side-info-requires
-write-side-info-requires c κs = search needs
+written-by-requires : tie.Need-written-by-requires
+written-by-requires c κs = search needs
 
 put-written-requires : tie.Need-put-written-requires
 put-written-requires c κs =
@@ -57,17 +58,18 @@ returns-3 c =
     let told = wrote .before .before .before .before .before in
     let given = told .before .before in
     let past = given .before in
+    let canonical = past .before .before .before .before .before .before .before .before .args .canonical in
     let meant =
         a-record _ _ _ _ _ _ (past .before .before .record-given .ensures) _ (past .if1 .left)
         (sym (given .header-given .ensures) ∙ ap headerFrom (told .header .given .1)) in
-    let whole = wrote .write-side-info .ensures .whole in
+    let whole = wrote .written-by .ensures in
     (
-      replied _ bytesWritten _ _ _ _ bytesIn _ _ meant whole refl (put .put-written .ensures .0),
-      replied _ bitsWritten _ _ _ _ bitsIn _ _ meant whole refl (put .put-written .ensures .1)
+      replied _ (bytesBy canonical) _ _ _ _ bytesIn _ _ meant whole refl (put .put-written .ensures .0),
+      replied _ (bitsBy canonical) _ _ _ _ bitsIn _ _ meant whole refl (put .put-written .ensures .1)
     )
 
-pub write-side-info-spec : {M : Type 1} → statement M
-write-side-info-spec =
+pub write-spec : {M : Type 1} → statement M
+write-spec =
     tie.close
     (tie.spec
     record-given-requires
@@ -76,7 +78,7 @@ write-side-info-spec =
     enum-known-header
     enum-told
     returns-2
-    write-side-info-requires
+    written-by-requires
     put-written-requires
     same-length
     same-length-2
