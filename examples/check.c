@@ -934,6 +934,121 @@ static void check_check_record(void)
     done(check_record.name);
 }
 
+static uint32_t call_write_canonical(const struct arguments *a, const size_t *length)
+{
+    return folgrist_write_side_info_canonical(HEADER(a), record.steps, length[READ], record.scfsi, length[READ_2], record.index,
+                                              length[READ_3], first.bytes, length[FIRST], out.words, length[OUT]);
+}
+
+static const struct function write_canonical = {"write_side_info_canonical",
+                                                {64, 174, 1, 64, 192},
+                                                {sizeof(uint32_t), 1, sizeof(uint32_t), 1, 1},
+                                                call_write_canonical};
+
+/* A record that is refused, beside zeros. */
+static void expect_not_canonical(const struct arguments *a, uint32_t number)
+{
+    static const uint32_t zeros[64] = {0};
+
+    expect(&write_canonical, a, number, zeros, zeros);
+}
+
+/* One slot of mono with three indices, by every scfsi: the bytes are those of the fewest indices, or the scfsi contradicts the indices.
+ * 26 bits of allocation, 0001 and zeros; scfsi 10, 01, 11 or 00; indices 5 and 62. */
+static void expect_fewest(void)
+{
+    static const uint8_t index[5][3] = {{5, 5, 5}, {5, 5, 62}, {5, 62, 62}, {5, 62, 5}, {5, 62, 21}};
+    static const uint8_t bytes[5][174] = {{0x10, 0, 0, 0x21, 0x40},
+                                          {0x10, 0, 0, 0x11, 0x7E},
+                                          {0x10, 0, 0, 0x31, 0x7E},
+                                          {0x10, 0, 0, 0x01, 0x7E, 0x14},
+                                          {0x10, 0, 0, 0x01, 0x7E, 0x54}};
+    static const uint32_t bits[] = {34, 40, 40, 46, 46};
+    static const uint8_t carries[5][4] = {{1, 1, 1, 1}, {1, 1, 0, 0}, {1, 0, 0, 1}, {1, 0, 0, 0}, {1, 0, 0, 0}};
+    const struct arguments a = mono();
+    uint8_t scfsi;
+    size_t i;
+
+    for (i = 0; i < COUNT(index); i++)
+        for (scfsi = 0; scfsi < 4; scfsi++) {
+            record_idle();
+            record_slot(0, 3, scfsi, index[i][0], index[i][1], index[i][2]);
+            if (carries[i][scfsi])
+                expect(&write_canonical, &a, FOLGRIST_ACCEPTED, bytes[i], &bits[i]);
+            else
+                expect_not_canonical(&a, FOLGRIST_SHARED_INDICES_DIFFER);
+        }
+}
+
+/* The record is in its one form. It stays so with three indices sent for every slot, and with anything in idle slots; what is read of it is the
+ * record again; and another index, or other steps, give other bytes. */
+static void expect_one_form(const struct arguments *a)
+{
+    uint8_t bytes[sizeof source.bytes];
+    const uint32_t bits = write_record(a, bytes);
+    size_t slot, last = 64;
+
+    expect(&write_canonical, a, FOLGRIST_ACCEPTED, bytes, &bits);
+    expect_read(a, bytes, 174, FOLGRIST_ACCEPTED, bits);
+    memset(record.scfsi, FOLGRIST_THREE_PER_GRANULE, 64);
+    check(write_canonical.name, "no fewer bits", write_side_info.call(a, write_side_info.needed) == 0 && out.words[0] >= bits);
+    expect(&write_canonical, a, FOLGRIST_ACCEPTED, bytes, &bits);
+    for (slot = 0; slot < 64; slot++) {
+        if (record.steps[slot] == 0)
+            record_slot(slot, 0, (uint8_t)(slot % 4), 255, 63, 1);
+        else
+            last = slot;
+    }
+    expect(&write_canonical, a, FOLGRIST_ACCEPTED, bytes, &bits);
+    record.index[3 * last + 1] ^= 1;
+    check(write_canonical.name, "another index", write_canonical.call(a, write_canonical.needed) == 0 && memcmp(first.bytes, bytes, 174) != 0);
+    record.steps[last] = record.steps[(last + 32) % 64] = 0;
+    check(write_canonical.name, "other steps", write_canonical.call(a, write_canonical.needed) == 0 && memcmp(first.bytes, bytes, 174) != 0);
+}
+
+/* The check's numbers first, by slot; then 7, then 8. */
+static void expect_in_order(void)
+{
+    const struct arguments a = joint(), b = mono();
+
+    record_idle();
+    record_slot(0, 3, FOLGRIST_SHARE_ALL, 63, 63, 63);
+    expect_not_canonical(&b, FOLGRIST_INDEX_NOT_TABLED);
+    record.steps[7] = 7;
+    expect_not_canonical(&b, FOLGRIST_STEPS_NOT_IN_ROW);
+    record.steps[31] = 3;
+    expect_not_canonical(&b, FOLGRIST_STEPS_NOT_CARRIED);
+    record_slot(6, 3, FOLGRIST_SHARE_01_THEN_2, 1, 2, 3);
+    expect_not_canonical(&b, FOLGRIST_SHARED_INDICES_DIFFER);
+    record_idle();
+    record.steps[11] = 4;
+    expect_not_canonical(&a, FOLGRIST_STEPS_NOT_IN_ROW);
+    record.steps[12] = 5;
+    expect_not_canonical(&a, FOLGRIST_SHARED_STEPS_DIFFER);
+}
+
+static void check_write_canonical(void)
+{
+    const struct arguments asked[] = {stereo(), joint(), mono(), low()};
+    uint32_t turn;
+    size_t i;
+
+    expect_fewest();
+    for (i = 0; i < COUNT(asked); i++)
+        for (turn = 0; turn < 4; turn++) {
+            record_varied(&asked[i], turn);
+            expect_one_form(&asked[i]);
+        }
+    expect_in_order();
+    expect_bad_codes(&write_canonical);
+    /* the header's questions, with a record that is refused */
+    record_idle();
+    record.steps[63] = 3;
+    expect_refused_headers(&write_canonical);
+    expect_bad_headers(&write_canonical);
+    done(write_canonical.name);
+}
+
 /* ---- the allocation tables ---- */
 
 /* The arguments of a table, a subband, and steps or a place. */
@@ -1236,6 +1351,7 @@ int main(void)
     check_write_side_info();
     check_read_side_info();
     check_check_record();
+    check_write_canonical();
     check_table_limits();
     check_nb_steps();
     check_allocation_index();
