@@ -151,11 +151,16 @@ fn ask_each_change(asker: &mut Asker) {
 
 /// Faults beside one another, by number, subband and channel, for these subbands: the first, the last
 /// that is not shared, the first and the last shared one, and the first that is not carried.
-const FIRST: usize = 0;
-const LAST_OWN: usize = 1;
-const FIRST_SHARED: usize = 2;
-const LAST_SHARED: usize = 3;
-const BEYOND: usize = 4;
+pub const FIRST: usize = 0;
+pub const LAST_OWN: usize = 1;
+pub const FIRST_SHARED: usize = 2;
+pub const LAST_SHARED: usize = 3;
+pub const BEYOND: usize = 4;
+
+pub fn subbands_of(budget: &FixedBitBudget) -> [usize; 5] {
+    let [bound, sblimit] = [budget.bound, budget.sblimit];
+    [0, bound - 1, bound, sblimit - 1, sblimit]
+}
 
 const JOINT_ORDERS: [[(u32, usize, usize); 2]; 8] = [
     [(CONTRADICTED, LAST_OWN, 1), (APART, FIRST_SHARED, 0)],
@@ -177,8 +182,7 @@ const SINGLE_ORDERS: [[(u32, usize, usize); 2]; 3] = [
 fn ask_orders(asker: &mut Asker) {
     for (mode, orders) in [(JOINT, &JOINT_ORDERS[..]), (SINGLE, &SINGLE_ORDERS[..])] {
         for (head, budget) in of_each_table(mode, &mut asker.random) {
-            let [bound, sblimit] = [budget.bound, budget.sblimit];
-            let subbands = [0, bound - 1, bound, sblimit - 1, sblimit];
+            let subbands = subbands_of(&budget);
             for order in orders {
                 let random = &mut asker.random;
                 let faults = order.map(|(number, subband, channel)| {

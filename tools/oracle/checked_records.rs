@@ -12,7 +12,8 @@ use reference::encoder_bit_allocator::FixedBitBudget;
 pub const NUMBERS: [u32; 3] = [OUTSIDE, APART, CONTRADICTED];
 
 /// Which granules have the same index.
-const PATTERNS: [[usize; GRANULES]; 5] = [[0, 0, 0], [0, 0, 1], [0, 1, 0], [0, 1, 1], [0, 1, 2]];
+pub const PATTERNS: [[usize; GRANULES]; 5] =
+    [[0, 0, 0], [0, 0, 1], [0, 1, 0], [0, 1, 1], [0, 1, 2]];
 
 /// Few, many, and such whose low bits are 0.
 const STRAY_STEPS: [u64; 5] = [1, 3, 1 << 16, 1 << 31, u32::MAX as u64];
@@ -223,7 +224,7 @@ pub fn litter_all(record: &mut Record, budget: &FixedBitBudget, random: &mut Ran
 }
 
 /// One to three faults; half of those behind the first are in its subband or beside it.
-fn draw_faults(budget: &FixedBitBudget, random: &mut Random) -> Vec<(usize, Change)> {
+pub fn draw_faults(budget: &FixedBitBudget, random: &mut Random) -> Vec<(usize, Change)> {
     let mut faults: Vec<(usize, Change)> = Vec::new();
     for _ in 0..1 + random.below(3) {
         let number = NUMBERS[random.below(3) as usize];

@@ -4,14 +4,15 @@
 use questions::kind::{Asker, Kind, silence_halts, stop};
 use questions::{
     allocation_kinds, budget_kinds, check_kinds, class_kinds, header_kinds, read_kinds,
-    sample_kinds, scalefactor_kinds, scfsi_kinds, side_info_kinds, table_kinds,
+    sample_kinds, scalefactor_kinds, scfsi_kinds, side_info_kinds, spelling_kinds, table_kinds,
 };
 use std::env;
 use std::io::{self, BufWriter, Write};
 
 const FORMAT: &str = "\
 # Answers of the reference Rust, one a line: the kind's number, its arguments, its answers.
-# Kind 35 has the oracle's own answers: the Rust has no such function.
+# Kind 35 has the oracle's own answers: the Rust has no such function. Nor has it that of kind 36:
+# there the check and the choice of scfsi are the oracle's own, bits and other refusals the Rust's.
 # All are unsigned decimal numbers with single spaces between; lines that begin with # are comments.
 # H stands for seven numbers: lsf bit_rate sample_rate padding protection_bit mode extension.
 # Flags are 0 or 1; mode: 0 stereo, 1 joint, 2 dual, 3 single; extension: 0 to 3 for 4, 8, 12, 16.
@@ -34,6 +35,7 @@ fn all_kinds() -> Vec<Kind> {
     kinds.extend(side_info_kinds::KINDS);
     kinds.extend(read_kinds::KINDS);
     kinds.extend(check_kinds::KINDS);
+    kinds.extend(spelling_kinds::KINDS);
     kinds.sort_by_key(|kind| kind.number);
     kinds
 }

@@ -32,7 +32,7 @@ fn any_steps(random: &mut Random) -> u64 {
     }
 }
 
-fn any_index(random: &mut Random) -> u64 {
+pub fn any_index(random: &mut Random) -> u64 {
     match random.below(8) {
         0 => 0,
         1 => LAST_INDEX,
@@ -40,7 +40,7 @@ fn any_index(random: &mut Random) -> u64 {
     }
 }
 
-fn reserved_index(random: &mut Random) -> u64 {
+pub fn reserved_index(random: &mut Random) -> u64 {
     match random.below(4) {
         0 | 1 => LAST_INDEX + 1,
         2 => 255,

@@ -40,9 +40,14 @@ impl Record {
         index: [0; INDICES],
     };
 
-    /// The three of a slot.
+    /// The three of a slot, to be changed.
     pub fn indices(&mut self, slot: usize) -> &mut [u64] {
         &mut self.index[GRANULES * slot..][..GRANULES]
+    }
+
+    /// The three of a slot.
+    pub fn triple(&self, slot: usize) -> &[u64] {
+        &self.index[GRANULES * slot..][..GRANULES]
     }
 
     /// Whether the layout carries the slot and it has steps.
@@ -81,6 +86,9 @@ pub fn data_of(budget: &FixedBitBudget, record: &Record) -> AudioData {
 fn by_slot<T>(of: impl Fn(usize) -> T) -> [[T; SUBBANDS]; 2] {
     std::array::from_fn(|ch| std::array::from_fn(|sb| of(SUBBANDS * ch + sb)))
 }
+
+/// From H, the layout of its budget and a record to calls of a writer, or the number of a refusal.
+pub type Write = fn(&[u64], &FixedBitBudget, &Record) -> Result<BitWriter, u32>;
 
 /// The calls of the Rust's private writers, or the number of their refusal.
 pub fn written(head: &[u64], budget: &FixedBitBudget, record: &Record) -> Result<BitWriter, u32> {

@@ -20,16 +20,16 @@ pub const KINDS: [Kind; 1] = [Kind {
            3 * slot + granule; what is packed has its first in the lowest bits of a number; 6: \
            IntensityStereoAllocationMismatch, 7: UnencodableNbSteps, 8: \
            ReservedScalefactorIndex; the other numbers as kind 26; with each all else is 0)",
-    answer: |a| asked_on_ladder(a, ANSWERS, answer_side_info),
+    answer: |a| asked_on_ladder(a, ANSWERS, |a| answer_by(a, written)),
     halted: Some(&HALTED),
     ask: ask_side_info,
     one_in: 1200,
 }];
 
 /// number, bits, and the bytes, eight a number.
-const ANSWERS: usize = 2 + BYTES.div_ceil(8);
+pub const ANSWERS: usize = 2 + BYTES.div_ceil(8);
 
-const HALTED: [u64; ANSWERS] = refused(2);
+pub const HALTED: [u64; ANSWERS] = refused(2);
 
 const RANDOM_LINES: usize = 60_000;
 
@@ -41,21 +41,21 @@ const fn refused(number: u32) -> [u64; ANSWERS] {
     answers
 }
 
-/// The budget, whose layout the record gets, halts at sample rate 0; the writers would not.
-fn answer_side_info(a: &[u64]) -> Vec<u64> {
+/// What is written, as a line has it. The budget, whose layout the record gets, halts at sample rate 0;
+/// the writers would not.
+pub fn answer_by(a: &[u64], write: Write) -> Vec<u64> {
     let Ok(budget) = fixed_bit_budget(&header_of(a)) else {
         return refused(1).to_vec();
     };
+    let writer = match write(a, &budget, &record_of_line(a)) {
+        Ok(writer) => writer,
+        Err(number) => return refused(number).to_vec(),
+    };
     let mut answers = refused(0);
-    match written(a, &budget, &record_of_line(a)) {
-        Err(number) => answers[0] = number.into(),
-        Ok(writer) => {
-            answers[1] = writer.bit_position();
-            let bytes: Vec<u64> = writer.bytes().into_iter().map(u64::from).collect();
-            let packed = pack(&bytes, BYTE_BITS);
-            answers[2..][..packed.len()].copy_from_slice(&packed);
-        }
-    }
+    answers[1] = writer.bit_position();
+    let bytes: Vec<u64> = writer.bytes().into_iter().map(u64::from).collect();
+    let packed = pack(&bytes, BYTE_BITS);
+    answers[2..][..packed.len()].copy_from_slice(&packed);
     answers.to_vec()
 }
 

@@ -1,5 +1,5 @@
 //! Headers whose budgets were worked out by hand, records whose bits were, bytes whose records were,
-//! and records that were checked by hand, with what is expected.
+//! and records that were checked or spelled by hand, with what is expected.
 
 use crate::heads::Head;
 
@@ -401,5 +401,135 @@ pub const CHECKED: [Worked; 26] = [
         "3 steps in channel 1 of subband 31: answer 17 at 31 1",
         &[(63, 3)],
         &[],
+    ),
+];
+
+/// What is written in one form; the bits of allocation are those of what is written above.
+pub const SPELLED: [Worked; 25] = [
+    small(
+        "48000 Hz, single, 32000 bit/s, 3 steps in subband 0, scfsi 00 and the indices 5 5 5: scfsi \
+         10 is sent, 34 bits, the bytes 16 0 0 33 64",
+        &[(0, 3)],
+        &[(0, 0, [5, 5, 5])],
+    ),
+    small(
+        "the same with scfsi 01: the same bytes",
+        &[(0, 3)],
+        &[(0, 1, [5, 5, 5])],
+    ),
+    small(
+        "with scfsi 10: the same bytes",
+        &[(0, 3)],
+        &[(0, 2, [5, 5, 5])],
+    ),
+    small(
+        "with scfsi 11, and in subband 1, which has no steps, with scfsi 10 and 1 2 255: the same \
+         bytes",
+        &[(0, 3)],
+        &[(0, 3, [5, 5, 5]), (1, 2, [1, 2, 255])],
+    ),
+    small(
+        "scfsi 00 and 5 5 9: scfsi 01 is sent, 40 bits, the bytes 16 0 0 17 73",
+        &[(0, 3)],
+        &[(0, 0, [5, 5, 9])],
+    ),
+    small(
+        "scfsi 01 and 5 5 9: the same bytes",
+        &[(0, 3)],
+        &[(0, 1, [5, 5, 9])],
+    ),
+    small(
+        "scfsi 00 and 5 9 9: scfsi 11 is sent, 40 bits, the bytes 16 0 0 49 73",
+        &[(0, 3)],
+        &[(0, 0, [5, 9, 9])],
+    ),
+    small(
+        "scfsi 11 and 5 9 9: the same bytes",
+        &[(0, 3)],
+        &[(0, 3, [5, 9, 9])],
+    ),
+    small(
+        "scfsi 00 and 5 9 5: scfsi 00 is sent, 46 bits, the bytes 16 0 0 1 73 20",
+        &[(0, 3)],
+        &[(0, 0, [5, 9, 5])],
+    ),
+    small(
+        "scfsi 00 and 5 9 62: scfsi 00 is sent, 46 bits, the bytes 16 0 0 1 73 248",
+        &[(0, 3)],
+        &[(0, 0, [5, 9, 62])],
+    ),
+    small(
+        "scfsi 10 and three times 63 in subband 0, which has no steps: 26 bits, all 0",
+        &[],
+        &[(0, 2, [63, 63, 63])],
+    ),
+    small(
+        "scfsi 01 and 5 9 9: answer 18",
+        &[(0, 3)],
+        &[(0, 1, [5, 9, 9])],
+    ),
+    small(
+        "scfsi 10 and 5 9 5: answer 18",
+        &[(0, 3)],
+        &[(0, 2, [5, 9, 5])],
+    ),
+    small("3 steps in subband 8: answer 17", &[(8, 3)], &[]),
+    small(
+        "scfsi 00 and three times 63: answer 8",
+        &[(0, 3)],
+        &[(0, 0, [63, 63, 63])],
+    ),
+    small(
+        "scfsi 10 and 0 63 0: answer 18, not 8",
+        &[(0, 3)],
+        &[(0, 2, [0, 63, 0])],
+    ),
+    small(
+        "4 steps in subband 0, 3 in subband 7, scfsi 01 and 5 9 9 there: answer 18, not 7",
+        &[(0, 4), (7, 3)],
+        &[(7, 1, [5, 9, 9])],
+    ),
+    small(
+        "4 steps in subband 0, 3 in subband 31: answer 17, not 7",
+        &[(0, 4), (31, 3)],
+        &[],
+    ),
+    small(
+        "3 steps in subband 0, scfsi 10 and 63, 4 steps in subband 7: answer 7, not 8",
+        &[(0, 3), (7, 4)],
+        &[(0, 2, [63, 63, 63])],
+    ),
+    small(
+        "3 steps in subband 0, scfsi 10 and 63, 3 steps in channel 1: answer 17, not 8",
+        &[(0, 3), (32, 3)],
+        &[(0, 2, [63, 63, 63])],
+    ),
+    joint(
+        "48000 Hz, joint, bound 4, 192000 bit/s, 5 steps in subband 4, scfsi 00 and 1 1 1 in channel \
+         0, scfsi 01 and 2 2 2 in channel 1: 120 bits, byte 4 is 32, bytes 13 and 14 are 160 and \
+         66, the rest 0",
+        &[(4, 5), (36, 5)],
+        &[(4, 0, [1, 1, 1]), (36, 1, [2, 2, 2])],
+    ),
+    joint(
+        "3 steps in subband 0, scfsi 00, 5 5 5 in channel 0 and 5 9 9 in channel 1: 126 bits, byte 0 \
+         is 17, bytes 13 to 15 are 177, 69 and 36, the rest 0",
+        &[(0, 3), (32, 3)],
+        &[(0, 0, [5, 5, 5]), (32, 0, [5, 9, 9])],
+    ),
+    joint(
+        "4 steps in subband 3, 3 and 5 in subband 4: answer 6, not 7",
+        &[(3, 4), (4, 3), (36, 5)],
+        &[],
+    ),
+    joint(
+        "3 and 5 steps in subband 26, index 63 in subband 0: answer 6, not 8",
+        &[(0, 3), (26, 3), (58, 5)],
+        &[(0, 0, [63, 0, 0])],
+    ),
+    joint(
+        "4 steps in both channels of subband 4, index 63 in subband 0: answer 7, not 8",
+        &[(0, 3), (4, 4), (36, 4)],
+        &[(0, 0, [63, 0, 0])],
     ),
 ];

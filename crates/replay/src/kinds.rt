@@ -59,7 +59,7 @@ pub fn print_name(kind: usize) -> bool {
         11..=16 => print_class_name(kind),
         17..=24 => print_sample_name(kind),
         25..=29 => print_budget_name(kind),
-        30..=35 => print_count_name(kind),
+        30..=36 => print_count_name(kind),
         _ => false,
     }
 }
@@ -125,6 +125,7 @@ fn print_count_name(kind: usize) -> bool {
         33 => io::write_all(1, b"write_side_info"),
         34 => io::write_all(1, b"read_side_info"),
         35 => io::write_all(1, b"check_record"),
+        36 => io::write_all(1, b"write_side_info_canonical"),
         _ => false,
     }
 }

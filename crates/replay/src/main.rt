@@ -24,9 +24,9 @@ struct Turn {
 
 fn main() {
     let mut numbers = [0u64; 256];
-    // For each kind, 1 to 35, its lines and those that agreed; at 0 the lines that could not be read.
-    let mut seen = [0u64; 36];
-    let mut agreed = [0u64; 36];
+    // For each kind, 1 to 36, its lines and those that agreed; at 0 the lines that could not be read.
+    let mut seen = [0u64; 37];
+    let mut agreed = [0u64; 37];
     // The number of the first line that did not agree or could not be read, or 0.
     let mut first: u64 = 0;
     read_all(&mut numbers, &mut seen, &mut agreed, &mut first);
@@ -38,8 +38,8 @@ fn main() {
 // run uses up.
 fn read_all(
     numbers: &mut [u64; 256],
-    seen: &mut [u64; 36],
-    agreed: &mut [u64; 36],
+    seen: &mut [u64; 37],
+    agreed: &mut [u64; 37],
     first: &mut u64,
 ) {
     let mut line = Line::first();
@@ -59,8 +59,8 @@ fn read_all(
 fn read_some(
     line: Line,
     numbers: &mut [u64; 256],
-    seen: &mut [u64; 36],
-    agreed: &mut [u64; 36],
+    seen: &mut [u64; 37],
+    agreed: &mut [u64; 37],
     first: &mut u64,
 ) -> Turn {
     let mut buffer = io::large_buffer();
@@ -86,8 +86,8 @@ fn feed(
     bytes: &[u8],
     at_start: Line,
     numbers: &mut [u64; 256],
-    seen: &mut [u64; 36],
-    agreed: &mut [u64; 36],
+    seen: &mut [u64; 37],
+    agreed: &mut [u64; 37],
     first: &mut u64,
 ) -> Line {
     let mut line = at_start;
@@ -109,8 +109,8 @@ fn feed(
 fn end_line(
     line: Line,
     numbers: &mut [u64; 256],
-    seen: &mut [u64; 36],
-    agreed: &mut [u64; 36],
+    seen: &mut [u64; 37],
+    agreed: &mut [u64; 37],
     first: &mut u64,
 ) {
     let ended = line.ended(numbers);
@@ -128,8 +128,8 @@ fn count_line(
     kind: u64,
     verdict: Verdict,
     number: u64,
-    seen: &mut [u64; 36],
-    agreed: &mut [u64; 36],
+    seen: &mut [u64; 37],
+    agreed: &mut [u64; 37],
     first: &mut u64,
 ) {
     let at = place(kind);
@@ -151,9 +151,9 @@ fn count_line(
 
 // Where a kind is counted.
 fn place(kind: u64) -> usize
-    ensures { λ r. ⌜ r < 36 ⌝ }
+    ensures { λ r. ⌜ r < 37 ⌝ }
 {
-    if kind < 36 { kind as usize } else { 0 }
+    if kind < 37 { kind as usize } else { 0 }
 }
 
 fn note_first(number: u64, first: &mut u64) {
@@ -162,9 +162,9 @@ fn note_first(number: u64, first: &mut u64) {
     }
 }
 
-fn print_kinds(seen: &[u64; 36], agreed: &[u64; 36]) {
+fn print_kinds(seen: &[u64; 37], agreed: &[u64; 37]) {
     let mut kind: usize = 1;
-    while kind < 36 {
+    while kind < 37 {
         if !kinds::print_name(kind) {
             return;
         }

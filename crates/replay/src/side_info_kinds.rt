@@ -1,10 +1,11 @@
-// The kinds of side information: written, read, and checked.
+// The kinds of side information: written with the scfsi given and in one form, read, and checked.
 ghost use Prim.Native.Nat.{_≤_};
 use crate::arguments::OptionHeader;
 use crate::arguments::header_of;
 use crate::budget_kinds::same_steps;
 use audio_data::Scfsi;
 use audio_data::ScfsiSlot;
+use header::FrameHeader;
 use record_check::RecordCheck;
 use replay_answers::Verdict;
 use replay_answers::same_numbers;
@@ -16,23 +17,39 @@ use side_info_writer::WrittenSideInfo;
 pub fn replay(count: usize, numbers: &[u64; 256]) -> Verdict {
     let kind = numbers[0];
     match kind {
-        33 => write_side_info(count, numbers),
+        33 => write_side_info(false, count, numbers),
         34 => read_side_info(count, numbers),
         35 => check_record(count, numbers),
+        36 => write_side_info(true, count, numbers),
         _ => Verdict::Unread,
     }
 }
 
 // H, 64 numbers of steps, 2 numbers of 32 scfsi codes each, 24 numbers of 8 indices each -> number, bits used, 22 numbers of 8 bytes each. What is
-// packed has its first in the lowest bits of a number.
-fn write_side_info(count: usize, numbers: &[u64; 256]) -> Verdict {
+// packed has its first in the lowest bits of a number. Written with the scfsi given, or in one form.
+fn write_side_info(canonical: bool, count: usize, numbers: &[u64; 256]) -> Verdict {
     let OptionHeader::Some(header) = header_of(numbers) else {
         return Verdict::Unread;
     };
     let mut steps = [0; 64];
     let read = read_steps(numbers, &mut steps);
-    let written = side_info_writer::write_side_info(header, steps, scfsi_of(numbers), indices_of(numbers));
+    let written = written_by(canonical, header, steps, scfsi_of(numbers), indices_of(numbers));
     verdict_of(read & (count == 122), same_written(numbers, written))
+}
+
+// What one of the two writers makes of a record.
+fn written_by(
+    canonical: bool,
+    header: FrameHeader,
+    steps: [u32; 64],
+    slots: [ScfsiSlot; 64],
+    indices: [u8; 192],
+) -> WrittenSideInfo {
+    if canonical {
+        canonical_writer::write_side_info_canonical(header, steps, slots, indices)
+    } else {
+        side_info_writer::write_side_info(header, steps, slots, indices)
+    }
 }
 
 // Reads the steps of a line, and answers false where some are too many for the library.

@@ -13,7 +13,7 @@ use reference::encoder_bit_allocator::{allocate_bits, demand_bits};
 pub const FUNCTIONS: [Function; 2] = [
     Function {
         name: "demand_bits",
-        share: 7,
+        share: 6,
         arguments: HEAD,
         ins: &[doubles(SLOTS)],
         outs: &[Out {
@@ -37,7 +37,7 @@ pub const FUNCTIONS: [Function; 2] = [
     },
     Function {
         name: ALLOCATE,
-        share: 16,
+        share: 15,
         arguments: &HEAD_AND_BANC,
         ins: &[doubles(SLOTS)],
         outs: &[

@@ -1,4 +1,4 @@
-//! What is timed: eight functions, on the headers and inputs of an encoder.
+//! What is timed: nine functions, on the headers and inputs of an encoder.
 
 use crate::bench_inputs::{FRAME_LEN, HEADS, frames, ratio_sets};
 use crate::case::Memory;
@@ -11,6 +11,8 @@ use crate::read_functions::READ_SIDE_INFO;
 use crate::scalefactor_functions::frame_of;
 use crate::side_info_bench::time_side_info;
 use crate::side_info_functions::SIDE_INFO;
+use crate::spelling_bench::time_spelling;
+use crate::spelling_functions::SPELLING;
 use crate::timing::{Row, Times, measure, table};
 use questions::allocation_kinds::ratios_of;
 use questions::heads::{Head, header_of};
@@ -29,7 +31,7 @@ const BATCH: usize = 256;
 
 type Timed = (&'static str, fn() -> Vec<Row>);
 
-const TIMED: [Timed; 9] = [
+const TIMED: [Timed; 10] = [
     ("allocate_bits", || by_header(ratio_sets(), time_allocation)),
     ("demand_bits", || by_header(ratio_sets(), time_demand)),
     ("compute_scalefactors", || {
@@ -44,6 +46,7 @@ const TIMED: [Timed; 9] = [
     (SIDE_INFO, time_side_info),
     (READ_SIDE_INFO, time_reading),
     (CHECK_RECORD, time_checks),
+    (SPELLING, time_spelling),
 ];
 
 /// All, or those whose names begin with one of the words; false where a word names none.
@@ -64,10 +67,11 @@ pub fn bench(words: &[String]) -> bool {
     true
 }
 
-/// What is timed beside the library: the Rust has no check of a record.
+/// What is timed beside the library: the Rust has no check of a record, and spells none.
 fn beside(name: &str) -> &str {
     match name {
         CHECK_RECORD => "the oracle's own check",
+        SPELLING => "check, choice and the Rust's writer",
         _ => "Rust",
     }
 }

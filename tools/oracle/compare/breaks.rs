@@ -1,5 +1,5 @@
 //! Wrong answers on purpose: one for each function, some about the ladder, one for each rule of an
-//! allocation, and those about side information, written, read and checked.
+//! allocation, and those about side information, written, read, checked and written in one form.
 
 use crate::allocation_functions::ALLOCATE;
 use crate::case::{Case, Function, OUT_OF_RANGE, Reply, SHORT_SLICE};
@@ -10,6 +10,7 @@ use crate::layout::Field;
 use crate::read_breaks;
 use crate::rules::{Held, LAYOUT, PART_2, PART_3, PART_4, ROW, SHARED};
 use crate::side_info_breaks;
+use crate::spelling_breaks;
 use questions::heads::{BIT_RATE, LSF};
 use questions::ladder::{OFF_LADDER, ladder};
 use questions::ratios::{SLOTS, SUBBANDS};
@@ -29,6 +30,8 @@ pub fn breaks(functions: &[Function]) -> Vec<Break> {
     breaks.extend(side_info_breaks::BREAKS);
     breaks.extend(read_breaks::BREAKS);
     breaks.extend(check_breaks::BREAKS);
+    breaks.extend(spelling_breaks::BREAKS);
+    breaks.extend(spelling_breaks::OF_TWO);
     breaks.extend(of_allocations());
     breaks
 }

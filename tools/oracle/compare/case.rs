@@ -179,6 +179,11 @@ impl Function {
         }
     }
 
+    /// Whether the arguments are looked at: no slice is short and nothing is out of range.
+    pub fn is_read(&self, case: &Case) -> bool {
+        !self.is_short(case) && !self.is_out_of_range(case)
+    }
+
     fn is_short(&self, case: &Case) -> bool {
         let mut ins = case.ins.iter().zip(self.ins);
         let mut outs = case.lengths.iter().zip(self.outs);
@@ -230,9 +235,14 @@ fn draw_length(count: usize, random: &mut Random) -> usize {
     }
 }
 
-fn reply(case: &Case, call: impl Fn(&Case, &mut Memories) -> u32) -> Reply {
+/// The memory before the call.
+pub fn untouched(case: &Case) -> Memories {
     let (one, other) = (case.fill, case.fill.rotate_left(32));
-    let mut memories = [one, !one, other, !other].map(Memory::filled);
+    [one, !one, other, !other].map(Memory::filled)
+}
+
+fn reply(case: &Case, call: impl Fn(&Case, &mut Memories) -> u32) -> Reply {
+    let mut memories = untouched(case);
     let number = call(case, &mut memories);
     Reply { number, memories }
 }

@@ -38,11 +38,17 @@ fn call_own(head: &Head, record: &Record) -> Option<Checked> {
     budget_of(head).map(|budget| check(&budget, record))
 }
 
-fn time_records(head: &Head, records: &[Record]) -> Times {
+/// The same records, with indices that agree with their scfsi.
+pub fn agreeing(records: &[Record]) -> Vec<Record> {
     let mut records = records.to_vec();
     for record in &mut records {
         (0..SLOTS).for_each(|slot| agree(record, slot));
     }
+    records
+}
+
+fn time_records(head: &Head, records: &[Record]) -> Times {
+    let records = agreeing(records);
     let slices: Vec<Slices> = records.iter().map(slices_of).collect();
     let mut out = Memory::filled(0);
     for (record, slices) in records.iter().zip(&slices) {

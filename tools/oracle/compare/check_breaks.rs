@@ -270,12 +270,12 @@ fn recode(case: &Case, reply: &mut Reply, from: u64, to: u64) {
 }
 
 /// The slots, in the order in which they are asked.
-fn slots() -> impl Iterator<Item = usize> {
+pub fn slots() -> impl Iterator<Item = usize> {
     (0..SUBBANDS).flat_map(|sb| [sb, SUBBANDS + sb])
 }
 
 /// The check with slots and questions in another order.
-fn first_met(
+pub fn first_met(
     budget: &FixedBitBudget,
     record: &Record,
     slots: impl Iterator<Item = usize>,
@@ -351,7 +351,7 @@ fn refuse_where(
 }
 
 /// 14 before 98.
-fn ask_range_first(function: &Function, case: &Case, reply: &mut Reply) {
+pub fn ask_range_first(function: &Function, case: &Case, reply: &mut Reply) {
     let above = |sort, number| matches!(sort, Sort::UpTo(last) if number > last);
     let mut numbers = function.arguments.iter().zip(case.numbers);
     if numbers.any(|(argument, number)| above(argument.sort, number)) {

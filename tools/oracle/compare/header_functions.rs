@@ -102,7 +102,7 @@ pub const FUNCTIONS: [Function; 4] = [
     },
     Function {
         name: "fixed_bit_budget",
-        share: 5,
+        share: 4,
         arguments: HEAD,
         ins: &[],
         outs: &[out(4, 8)],
@@ -119,7 +119,7 @@ pub const FUNCTIONS: [Function; 4] = [
     },
     Function {
         name: "available_data_bits",
-        share: 5,
+        share: 4,
         arguments: &HEAD_AND_BANC,
         ins: &[],
         outs: &[out(8, 1)],

@@ -2,9 +2,10 @@
 
 use crate::allocation_functions::{self, ALLOCATE};
 use crate::case::{Case, Function, Reply};
+use crate::twins::{BESIDE, Beside};
 use crate::{
     check_functions, header_functions, read_functions, rules, sample_functions,
-    scalefactor_functions, side_info_functions, table_functions,
+    scalefactor_functions, side_info_functions, spelling_functions, table_functions, twins,
 };
 
 /// Every function of the library.
@@ -18,12 +19,14 @@ pub fn functions() -> Vec<Function> {
     functions.extend(side_info_functions::FUNCTIONS);
     functions.extend(read_functions::FUNCTIONS);
     functions.extend(check_functions::FUNCTIONS);
+    functions.extend(spelling_functions::FUNCTIONS);
     functions
 }
 
 pub const ANSWER: &str = "the answers differ";
 
-/// Makes the library's answer wrong on purpose, to see that it is noticed.
+/// Makes the library's answer wrong on purpose, to see that it is noticed: to the case, or, where that
+/// must be noticed, to the one beside it.
 pub struct Break {
     pub name: &'static str,
     pub function: &'static str,
@@ -35,6 +38,8 @@ pub struct Break {
 pub struct Verdict {
     pub answered: Reply,
     pub expected: Reply,
+    /// The case beside it, where there is one.
+    pub beside: Option<Beside>,
     /// Empty where all is well.
     pub differences: Vec<&'static str>,
 }
@@ -42,10 +47,20 @@ pub struct Verdict {
 pub fn judge(function: &Function, case: &Case, broken: Option<&Break>) -> Verdict {
     let expected = function.expected(case);
     let mut answered = function.answered(case);
-    if let Some(broken) = broken.filter(|broken| broken.function == function.name) {
-        (broken.change)(function, case, &mut answered);
+    let mut beside = twins::beside(function, case);
+    match broken.filter(|broken| broken.function == function.name) {
+        Some(broken) if broken.difference == BESIDE => {
+            if let Some(Beside { case, answered, .. }) = &mut beside {
+                (broken.change)(function, case, answered);
+            }
+        }
+        Some(broken) => (broken.change)(function, case, &mut answered),
+        None => {}
     }
     let mut differences = Vec::new();
+    if let Some(beside) = &beside {
+        differences.extend(twins::broken(case, &answered, beside));
+    }
     if answered != expected {
         differences.push(ANSWER);
     }
@@ -55,6 +70,7 @@ pub fn judge(function: &Function, case: &Case, broken: Option<&Break>) -> Verdic
     Verdict {
         answered,
         expected,
+        beside,
         differences,
     }
 }

@@ -19,6 +19,27 @@ macro_rules! with_head {
     };
 }
 
+/// A function that writes side information.
+pub type Writer = unsafe extern "C" fn(
+    u8,
+    u32,
+    u32,
+    u8,
+    u8,
+    u8,
+    u8,
+    *const u32,
+    usize,
+    *const u8,
+    usize,
+    *const u8,
+    usize,
+    *mut u8,
+    usize,
+    *mut u32,
+    usize,
+) -> u32;
+
 with_head! {
     folgrist_select_table(out: *mut u32, length: usize);
     folgrist_frame_size_bytes(out: *mut u64, length: usize);
@@ -42,6 +63,11 @@ with_head! {
     folgrist_check_record(
         steps: *const u32, steps_count: usize, scfsi: *const u8, scfsi_count: usize,
         index: *const u8, index_count: usize, out: *mut u32, length: usize
+    );
+    folgrist_write_side_info_canonical(
+        steps: *const u32, steps_count: usize, scfsi: *const u8, scfsi_count: usize,
+        index: *const u8, index_count: usize,
+        bytes: *mut u8, bytes_length: usize, out: *mut u32, length: usize
     );
 }
 

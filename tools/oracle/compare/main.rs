@@ -25,8 +25,12 @@ mod shrink;
 mod side_info_bench;
 mod side_info_breaks;
 mod side_info_functions;
+mod spelling_bench;
+mod spelling_breaks;
+mod spelling_functions;
 mod table_functions;
 mod timing;
+mod twins;
 
 use case::Function;
 use judge::Break;

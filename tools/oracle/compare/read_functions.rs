@@ -22,7 +22,7 @@ const fn out(name: &'static str, width: usize, count: usize) -> Out {
 
 pub const FUNCTIONS: [Function; 1] = [Function {
     name: READ_SIDE_INFO,
-    share: 10,
+    share: 8,
     arguments: HEAD,
     ins: &[In {
         name: "bytes",

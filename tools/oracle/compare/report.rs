@@ -1,7 +1,7 @@
 //! What is written about a difference, and the table of a run without one.
 
 use crate::case::{Case, Function, Reply, Sort};
-use crate::judge::{Break, judge};
+use crate::judge::{ANSWER, Break, judge};
 use std::collections::BTreeMap;
 
 /// A double by its value and its bits.
@@ -53,18 +53,32 @@ fn answer(function: &Function, case: &Case, reply: &Reply, other: &Reply) -> Str
     text
 }
 
+/// The input and both answers.
+fn call(function: &Function, case: &Case, library: &Reply, right: &Reply) -> String {
+    format!(
+        "{}  library: {}\n  expected: {}\n",
+        input(function, case),
+        answer(function, case, library, right),
+        answer(function, case, right, library),
+    )
+}
+
 /// A difference with all that is needed to see it again.
 pub fn difference(function: &Function, case: &Case, broken: Option<&Break>) -> String {
     let verdict = judge(function, case, broken);
-    let (library, rust) = (&verdict.answered, &verdict.expected);
-    format!(
-        "folgrist_{}: {}\n  input, as small as it was found:\n{}  library: {}\n  expected: {}\n",
+    let mut text = format!(
+        "folgrist_{}: {}\n  input, as small as it was found:\n{}",
         function.name,
         verdict.differences.join("; "),
-        input(function, case),
-        answer(function, case, library, rust),
-        answer(function, case, rust, library),
-    )
+        call(function, case, &verdict.answered, &verdict.expected),
+    );
+    if !verdict.differences.contains(&ANSWER)
+        && let Some(beside) = &verdict.beside
+    {
+        text += "  the record beside it:\n";
+        text += &call(function, &beside.case, &beside.answered, &beside.expected);
+    }
+    text
 }
 
 /// How often each function was asked, and with which numbers.

@@ -61,7 +61,7 @@ pub fn written_bytes(head: &Head, records: &[Record]) -> (FrameHeader, Vec<Vec<u
 }
 
 /// The same header, and the records read from these bytes.
-fn read_back(head: &Head, records: &[Record]) -> (FrameHeader, Vec<AudioData>) {
+pub fn read_back(head: &Head, records: &[Record]) -> (FrameHeader, Vec<AudioData>) {
     let (header, bytes) = written_bytes(head, records);
     let data = |bytes: &Vec<u8>| {
         parse_audio_data(&header, &mut BitReader::new(bytes)).expect("what was written")
@@ -70,9 +70,15 @@ fn read_back(head: &Head, records: &[Record]) -> (FrameHeader, Vec<AudioData>) {
     (header, records)
 }
 
-fn call_library(head: &Head, slices: &Slices, bytes: &mut Memory, out: &mut Memory) -> u32 {
+fn call_library(
+    writer: Writer,
+    head: &Head,
+    slices: &Slices,
+    bytes: &mut Memory,
+    out: &mut Memory,
+) -> u32 {
     call_with_head!(
-        folgrist_write_side_info,
+        writer,
         head,
         slices.steps.as_ptr(),
         slices.steps.len(),
@@ -87,38 +93,49 @@ fn call_library(head: &Head, slices: &Slices, bytes: &mut Memory, out: &mut Memo
     )
 }
 
-/// The Rust's writer is emptied for each record, so no memory is asked for.
-fn call_rust<'a>(header: &FrameHeader, data: &AudioData, writer: &'a mut BitWriter) -> &'a [u8] {
-    writer.clear();
-    let _ = black_box(write_audio_data_with_section_bits(header, data, writer));
-    writer.finish()
-}
-
 fn time_records(head: &Head, records: &[Record]) -> Times {
     let (header, data) = read_back(head, records);
+    time_writer(folgrist_write_side_info, head, records, |at, writer| {
+        write(&header, &data[at], writer)
+    })
+}
+
+pub fn write(header: &FrameHeader, data: &AudioData, writer: &mut BitWriter) {
+    let (header, data) = (black_box(header), black_box(data));
+    let _ = black_box(write_audio_data_with_section_bits(header, data, writer));
+}
+
+/// Times a writer of the library beside one that leaves the same bytes of the record at a place.
+pub fn time_writer(
+    library: Writer,
+    head: &Head,
+    records: &[Record],
+    mut rust: impl FnMut(usize, &mut BitWriter),
+) -> Times {
     let slices: Vec<Slices> = records.iter().map(slices_of).collect();
     let (mut bytes, mut out) = (Memory::filled(0), Memory::filled(0));
     let mut writer = BitWriter::new();
-    for (data, slices) in data.iter().zip(&slices) {
-        let number = call_library(head, slices, &mut bytes, &mut out);
-        let rust = call_rust(&header, data, &mut writer);
+    for (at, slices) in slices.iter().enumerate() {
+        let number = call_library(library, head, slices, &mut bytes, &mut out);
+        writer.clear();
+        rust(at, &mut writer);
+        let rust = writer.finish();
         let as_long = rust.len() as u64 == out.get(4, 0).div_ceil(8);
         let same = (0..rust.len()).all(|at| bytes.get(1, at) == rust[at].into());
         assert!(number == 0 && as_long && same, "what is timed differs");
     }
     let rust = || {
-        for data in &data {
-            black_box(call_rust(black_box(&header), black_box(data), &mut writer));
+        // The writer is emptied for each record, so no memory is asked for.
+        for at in 0..records.len() {
+            writer.clear();
+            rust(at, &mut writer);
+            black_box(writer.finish());
         }
     };
     let library = || {
         for slices in &slices {
-            black_box(call_library(
-                black_box(head),
-                black_box(slices),
-                &mut bytes,
-                &mut out,
-            ));
+            let (head, slices) = (black_box(head), black_box(slices));
+            black_box(call_library(library, head, slices, &mut bytes, &mut out));
             black_box((&bytes, &out));
         }
     };

@@ -55,16 +55,16 @@ const UNSENT: [&[usize]; 4] = [&[], &[1], &[1, 2], &[1]];
 
 const SHARE_0_THEN_12: u64 = 3;
 
-fn bits(reply: &Reply) -> u64 {
+pub fn bits(reply: &Reply) -> u64 {
     reply.memories[1].get(4, 0)
 }
 
-fn flip(reply: &mut Reply, at: usize) {
+pub fn flip(reply: &mut Reply, at: usize) {
     let byte = reply.memories[0].get(1, at);
     reply.memories[0].put(1, at, !byte);
 }
 
-fn flip_last_bit(_: &Function, _: &Case, reply: &mut Reply) {
+pub fn flip_last_bit(_: &Function, _: &Case, reply: &mut Reply) {
     if reply.number == 0 {
         let last = bits(reply) as usize - 1;
         let byte = reply.memories[0].get(1, last / 8);
@@ -73,7 +73,7 @@ fn flip_last_bit(_: &Function, _: &Case, reply: &mut Reply) {
 }
 
 /// Something in the first byte that is not used.
-fn write_tail(_: &Function, _: &Case, reply: &mut Reply) {
+pub fn write_tail(_: &Function, _: &Case, reply: &mut Reply) {
     let at = bits(reply).div_ceil(8) as usize;
     if reply.number == 0 && at < BYTES {
         reply.memories[0].put(1, at, 1);
@@ -124,14 +124,14 @@ pub fn cut_codes(function: &Function, case: &Case, reply: &mut Reply) {
 }
 
 /// Whether some slot, active or idle, has a reserved index.
-fn has_reserved(record: &Record, budget: &FixedBitBudget, active: bool) -> bool {
+pub fn has_reserved(record: &Record, budget: &FixedBitBudget, active: bool) -> bool {
     let triple = |slot: usize| record.index[GRANULES * slot..][..GRANULES].iter();
     let mut slots = (0..SLOTS).filter(|&slot| record.is_active(budget, slot) == active);
     slots.any(|slot| triple(slot).any(|&index| index > LAST_INDEX))
 }
 
 /// As if the indices of idle slots were looked at.
-fn look_at_idle(_: &Function, case: &Case, reply: &mut Reply) {
+pub fn look_at_idle(_: &Function, case: &Case, reply: &mut Reply) {
     if reply.number == 0
         && let Some(budget) = budget_of(&case.numbers)
         && has_reserved(&record_of(case), &budget, false)
@@ -143,7 +143,7 @@ fn look_at_idle(_: &Function, case: &Case, reply: &mut Reply) {
 }
 
 /// The number, where the record has such a field.
-fn renumber_by_field(
+pub fn renumber_by_field(
     case: &Case,
     reply: &mut Reply,
     number: u32,
@@ -169,11 +169,14 @@ fn ask_apart_first(_: &Function, case: &Case, reply: &mut Reply) {
 /// 7 of a higher field, or of the same, before 6.
 fn ask_rows_first(_: &Function, case: &Case, reply: &mut Reply) {
     if reply.number == APART {
-        renumber_by_field(case, reply, LACKING, |record, budget, field| {
-            let (sb, steps) = (field[0] % SUBBANDS, record.steps[field[0]] as u32);
-            budget.table.allocation_index(sb, steps).is_none()
-        });
+        renumber_by_field(case, reply, LACKING, is_lacking);
     }
+}
+
+/// Whether the row lacks the steps of the field's first slot.
+pub fn is_lacking(record: &Record, budget: &FixedBitBudget, field: &[usize]) -> bool {
+    let (sb, steps) = (field[0] % SUBBANDS, record.steps[field[0]] as u32);
+    budget.table.allocation_index(sb, steps).is_none()
 }
 
 fn ask_reserved_first(_: &Function, case: &Case, reply: &mut Reply) {

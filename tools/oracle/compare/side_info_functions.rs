@@ -3,11 +3,12 @@
 use crate::case::{Case, Function, In, Memories, Out, Sort};
 use crate::header_functions::*;
 use crate::library::*;
+use oxideav_core::bits::BitWriter;
 use questions::random::Random;
 use questions::ratios::SLOTS;
 use questions::records::{draw_layout, draw_record};
 use questions::served::budget_of;
-use questions::side_info::{BYTES, INDICES, Record, written};
+use questions::side_info::{BYTES, INDICES, Record, Write, written};
 
 const fn read(name: &'static str, sort: Sort, width: usize, count: usize) -> In {
     In {
@@ -25,46 +26,51 @@ pub const RECORD: [In; 3] = [
     read("indices", Sort::Whole, 1, INDICES),
 ];
 
+/// The slices that a writer fills.
+pub const WRITTEN: [Out; 2] = [
+    Out {
+        name: "bytes",
+        width: 1,
+        count: BYTES,
+    },
+    Out {
+        name: "bits",
+        width: 4,
+        count: 1,
+    },
+];
+
 pub const SIDE_INFO: &str = "write_side_info";
 
 pub const FUNCTIONS: [Function; 1] = [Function {
     name: SIDE_INFO,
-    share: 10,
+    share: 8,
     arguments: HEAD,
     ins: &RECORD,
-    outs: &[
-        Out {
-            name: "bytes",
-            width: 1,
-            count: BYTES,
-        },
-        Out {
-            name: "bits",
-            width: 4,
-            count: 1,
-        },
-    ],
+    outs: &WRITTEN,
     draw: draw_side_info,
-    library: |case, [bytes, out, ..]| {
-        let steps: Vec<u32> = case.ins[0].iter().map(|&count| count as u32).collect();
-        let [scfsi, index] = [1, 2].map(|at| bytes_of(&case.ins[at]));
-        call_with_head!(
-            folgrist_write_side_info,
-            case.numbers,
-            steps.as_ptr(),
-            steps.len(),
-            scfsi.as_ptr(),
-            scfsi.len(),
-            index.as_ptr(),
-            index.len(),
-            bytes.pointer(),
-            case.lengths[0],
-            out.pointer(),
-            case.lengths[1]
-        )
-    },
-    rust: answer_side_info,
+    library: |case, memories| call_writer(folgrist_write_side_info, case, memories),
+    rust: |case, memories| answer_by(written, case, memories),
 }];
+
+pub fn call_writer(writer: Writer, case: &Case, [bytes, out, ..]: &mut Memories) -> u32 {
+    let steps: Vec<u32> = case.ins[0].iter().map(|&count| count as u32).collect();
+    let [scfsi, index] = [1, 2].map(|at| bytes_of(&case.ins[at]));
+    call_with_head!(
+        writer,
+        case.numbers,
+        steps.as_ptr(),
+        steps.len(),
+        scfsi.as_ptr(),
+        scfsi.len(),
+        index.as_ptr(),
+        index.len(),
+        bytes.pointer(),
+        case.lengths[0],
+        out.pointer(),
+        case.lengths[1]
+    )
+}
 
 pub fn bytes_of(numbers: &[u64]) -> Vec<u8> {
     numbers.iter().map(|&number| number as u8).collect()
@@ -100,15 +106,20 @@ pub fn put_record(case: &mut Case, record: &Record) {
     case.ins[2].extend(record.index);
 }
 
+pub fn answer_by(write: Write, case: &Case, memories: &mut Memories) -> u32 {
+    let number = refusal(&case.numbers);
+    let calls = match budget_of(&case.numbers).filter(|_| number == 0) {
+        Some(budget) => write(&case.numbers, &budget, &record_of(case)),
+        None => Err(number),
+    };
+    put_written(calls, memories)
+}
+
 /// The bits are the Rust's calls, packed by the stand-in.
-fn answer_side_info(case: &Case, [bytes, out, ..]: &mut Memories) -> u32 {
+pub fn put_written(calls: Result<BitWriter, u32>, [bytes, out, ..]: &mut Memories) -> u32 {
     (0..BYTES).for_each(|at| bytes.put(1, at, 0));
     out.put(4, 0, 0);
-    let number = refusal(&case.numbers);
-    let Some(budget) = budget_of(&case.numbers).filter(|_| number == 0) else {
-        return number;
-    };
-    match written(&case.numbers, &budget, &record_of(case)) {
+    match calls {
         Err(number) => number,
         Ok(writer) => {
             for (at, byte) in writer.bytes().into_iter().enumerate() {

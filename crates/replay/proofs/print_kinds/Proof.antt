@@ -1,4 +1,4 @@
--- `replay::print_kinds` is safe and ends: the kind rises to 36 at most. Nothing else has to hold from turn to turn, so the invariant is `Unit {0}`.
+-- `replay::print_kinds` is safe and ends: the kind rises to 37 at most. Nothing else has to hold from turn to turn, so the invariant is `Unit {0}`.
 -- Assumes nothing.
 use Prim.Native.Nat.{_-_}
 use borrow.Author.Needs.{needs}
@@ -9,7 +9,7 @@ abbrev Inv-loop : tie.InvT-loop
 Inv-loop seen agreed kind₀ kind = Unit {0}
 
 abbrev μ-loop : tie.MeasureT-loop
-μ-loop seen agreed kind₀ kind = 36 - kind
+μ-loop seen agreed kind₀ kind = 37 - kind
 
 loop-holds : tie.Need-loop-holds Inv-loop μ-loop
 loop-holds c = search needs
