@@ -1,20 +1,16 @@
 // The functions of the C library that take a header, as seven numbers, and the record of its frame's side information, as three slices. The exported
 // function of the same name hands over the numbers and the slices under the same contract; here the slices' lengths are asked about first (98), then
 // what the numbers and the scfsi codes mean (14), then what the function itself asks.
-ghost use mathlib.Core.Path.{_≡_};
 ghost use mathlib.Core.Bool.{_||_};
 ghost use Prim.Native.Nat.{_≤_};
 ghost use lib.Dec.{ltb};
 ghost use lib.ListN.{length};
 ghost use Rattle.c_answers.specs.Answers.{answered, Answers};
 ghost use Rattle.c_side_info.specs.Arguments.{frameNumbered};
-ghost use Rattle.c_side_info.specs.Parts.{writtenBy, bytesBy, bitsBy};
+ghost use Rattle.c_side_info.specs.Parts.{bytesBy, bitsBy};
 ghost use Rattle.c_side_info.specs.Replies.{bytesIn, bitsIn, bytesWritten, bitsWritten, bytesCanonical, bitsCanonical, placeChecked};
-ghost use Rattle.side_info.specs.SideInfo.{sideInfo};
-use audio_data::ScfsiSlot;
 use c_answers::arguments::{HeaderGiven, HeaderNumbers};
 use c_answers::{arguments, writing};
-use header::FrameHeader;
 use side_info_writer::WrittenSideInfo;
 
 mod record;
@@ -80,18 +76,12 @@ fn write(canonical: bool, given: HeaderNumbers, steps: &[u32], scfsi: &[u8], ind
     let nb_steps = read.nb_steps;
     let slots = read.scfsi;
     let scalefactor = read.scalefactor;
-    let written = written_by(canonical, header, nb_steps, slots, scalefactor);
-    put_written(written, bytes, out)
-}
-
-// The writer's answer.
-fn written_by(canonical: bool, header: FrameHeader, nb_steps: [u32; 64], scfsi: [ScfsiSlot; 64], scalefactor: [u8; 192]) -> WrittenSideInfo
-    ensures { λ r. ⌜ r ≡ writtenBy canonical header (sideInfo «nb_steps» scfsi scalefactor) ⌝ }
-{
     if canonical {
-        canonical_writer::write_side_info_canonical(header, nb_steps, scfsi, scalefactor)
+        let written = canonical_writer::write_side_info_canonical(header, nb_steps, slots, scalefactor);
+        put_written(written, bytes, out)
     } else {
-        side_info_writer::write_side_info(header, nb_steps, scfsi, scalefactor)
+        let written = side_info_writer::write_side_info(header, nb_steps, slots, scalefactor);
+        put_written(written, bytes, out)
     }
 }
 
