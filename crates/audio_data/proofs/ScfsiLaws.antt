@@ -1,5 +1,5 @@
--- Three indices that agree with the sharing come back from those that travel; as many travel as the scfsi says; whether they agree. By the four codes.
-use mathlib.Core.Path.{_≡_, refl, sym, ap₂, _∙_}
+-- Three indices agree with the sharing exactly where they come back from those that travel; as many travel as the scfsi says; whether they agree. By the four codes.
+use mathlib.Core.Path.{_≡_, refl, sym, ap, ap₂, _∙_}
 use mathlib.Core.Bool.{true, _&&_}
 use lib.Dec.{eqb}
 use lib.ListN.{length}
@@ -14,6 +14,13 @@ comes-back ThreePerGranule t h = refl
 comes-back Share01Then2 t h = λ i. three (t .first) (h i) (t .third)
 comes-back ShareAll t h = λ i. three (t .first) (h .0 i) ((h .0 ∙ h .1) i)
 comes-back Share0Then12 t h = λ i. three (t .first) (sym h i) (t .third)
+
+-- and where the three come back, they agree
+pub back-agrees : (s : Scfsi) (t : Three) → restored s (sent s t) ≡ t → Agrees s t
+back-agrees ThreePerGranule t e = tt
+back-agrees Share01Then2 t e = ap (λ (u : Three). u .second) e
+back-agrees ShareAll t e = (ap (λ (u : Three). u .second) e, sym (ap (λ (u : Three). u .second) e) ∙ ap (λ (u : Three). u .third) e)
+back-agrees Share0Then12 t e = sym (ap (λ (u : Three). u .second) e)
 
 pub sent-count : (s : Scfsi) (t : Three) → length (sent s t) ≡ partsOf s
 sent-count ThreePerGranule t = refl

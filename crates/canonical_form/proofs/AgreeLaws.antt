@@ -1,5 +1,5 @@
 -- Records that agree where the writer looks are written alike: the steps of every slot, and the scfsi and indices of the active ones.
-use mathlib.Core.Path.{_≡_, refl, sym, ap, ap₂, _∙_, subst}
+use mathlib.Core.Path.{_≡_, refl, sym, ap, ap₂, _∙_}
 use mathlib.Core.Bool.{Bool, true, false, cond, _&&_}
 use mathlib.Core.List.{List, [], _∷_, _++_, map, flatMap}
 use Prim.Native.Nat.{ℕ, _<_}
@@ -22,24 +22,12 @@ use Rattle.audio_data.specs.declared.Scfsi.{Scfsi}
 use Rattle.audio_data.specs.declared.ScfsiSlot.{ScfsiSlot}
 use Rattle.audio_data.specs.Scfsi.{Three, codeOf, sent}
 use Rattle.bit_string.specs.Bits.{bitsOf}
-use Rattle.side_info.specs.SideInfo.{SideInfo, idleScfsi, scfsiIn, scalefactorsIn, headerLayout, activeAmong, activeSlots, allocationFieldBits, scfsiBits, scalefactorBits, sideInfoBits, sameSteps, sharedAsked, rowAsked, fieldAsked, tabled, scalefactorAsked, recordAsked}
-use Rattle.side_info.proofs.ListLaws.{Each, each-map, each-of, each-one}
+use Rattle.side_info.specs.SideInfo.{SideInfo, idleScfsi, scfsiIn, scalefactorsIn, headerLayout, activeAmong, activeSlots, allocationFieldBits, scfsiBits, scalefactorBits, sideInfoBits, sameSteps, fieldAsked, tabled, scalefactorAsked, recordAsked}
+use Rattle.side_info.proofs.ListLaws.{Each, each-map, each-of, flat-each, map-each}
 use Rattle.side_info_writer.specs.Written.{written, whereZero, writtenOf}
-use Rattle.side_info_reading.proofs.SlotLaws.{Field, each-field, slots-small, active-below}
+use Rattle.side_info_reading.proofs.SlotLaws.{Field, each-field, slots-small, active-slot}
 use Rattle.canonical_form.specs.Fewest.{fewestScfsi, chosen, canonical}
 use Rattle.canonical_form.specs.Canonical.{SaysTheSame}
-
--- ---- lists of equal parts
-
-module _ {A B : Type 0} where
-  flat-each : (f g : A → List B) (xs : List A) → Each (λ x. f x ≡ g x) xs → flatMap f xs ≡ flatMap g xs
-  unfolding flatMap
-  flat-each f g [] e = refl
-  flat-each f g (x ∷ xs) e = ap₂ _++_ (e .0) (flat-each f g xs (e .1))
-
-  map-each : (f g : A → B) (xs : List A) → Each (λ x. f x ≡ g x) xs → map f xs ≡ map g xs
-  map-each f g [] e = refl
-  map-each f g (x ∷ xs) e = ap₂ _∷_ (e .0) (map-each f g xs (e .1))
 
 -- ---- steps that agree
 
@@ -96,7 +84,7 @@ module _ (l : Layout) (r s : SideInfo) (a : Agree l r s) where
   slot-asked : (slot : ℕ) → oneOf active slot ≡ true → scalefactorAsked r slot ≡ scalefactorAsked s slot
   slot-asked slot h = ap (λ (t : Three). record { yes = tabled t; otherwise = 8 }) (a .indices slot h)
 
-  pub asked-same : recordAsked l r ≡ recordAsked l s
+  asked-same : recordAsked l r ≡ recordAsked l s
   unfolding recordAsked
   asked-same =
       ap₂ _++_ (flat-each (fieldAsked l r) (fieldAsked l s) (fieldsOf l) (each-map _ _ field-asked (fieldsOf l) (each-field l)))
@@ -107,7 +95,7 @@ module _ (l : Layout) (r s : SideInfo) (a : Agree l r s) where
   field-bits x f =
       ap (λ (n : ℕ). bitsOf (nbalOf (l .table) (x .subband)) (orZero (indexOf (l .table) (x .subband) n))) (steps-same l (r .steps) (s .steps) (a .steps) x f)
 
-  pub bits-same : sideInfoBits l r ≡ sideInfoBits l s
+  bits-same : sideInfoBits l r ≡ sideInfoBits l s
   unfolding sideInfoBits
   bits-same =
       ap₂ _++_ (flat-each (allocationFieldBits l r) (allocationFieldBits l s) (fieldsOf l) (each-map _ _ field-bits (fieldsOf l) (each-field l)))
@@ -130,10 +118,6 @@ written-same h r s a =
 pub scfsi-chosen : (s : SideInfo) (slot : ℕ) → slot < 64 → scfsiIn (canonical s) slot ≡ fewestScfsi (scalefactorsIn s slot)
 unfolding chosen
 scfsi-chosen s slot h = ap (λ (x : ScfsiSlot). x .scfsi) (tabulated 64 (λ k. record { scfsi = fewestScfsi (scalefactorsIn s k) }) slot idleScfsi h)
-
--- an active slot is one of 64
-pub active-slot : (l : Layout) (steps : List ℕ) (slot : ℕ) → oneOf (activeSlots l steps) slot ≡ true → slot < 64
-active-slot l steps slot h = each-one (λ k. k < 64) (activeSlots l steps) slot (active-below l steps) h
 
 module _ (l : Layout) where
   -- they are canonical alike

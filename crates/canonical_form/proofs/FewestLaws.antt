@@ -2,14 +2,14 @@
 use mathlib.Core.Path.{_≡_, refl, sym, ap, ap₂, _∙_, subst}
 use mathlib.Core.Bool.{Bool, true, false, not, _&&_, _||_, true≢false}
 use mathlib.Core.Logic.{_⊎_, inl, inr}
-use Prim.Native.Nat.{ℕ, _≤_, _<_}
+use Prim.Native.Nat.{_≤_, _<_}
 use native.Mathlib.Omega.{arith}
 use lib.Dec.{eqb, ltb}
 use borrow.Author.Tests.{eqb-true, ltb-true}
 use Rattle.audio_data.specs.declared.Scfsi.{Scfsi}
 use Rattle.audio_data.specs.declared.Scfsi.the-variants.{ThreePerGranule, Share01Then2, ShareAll, Share0Then12}
 use Rattle.audio_data.specs.Scfsi.{Three, Agrees, agreeing, partsOf, codeOf, ofCode}
-use Rattle.audio_data.proofs.ScfsiLaws.{comes-back, agreeing-true, agrees-true, of-code}
+use Rattle.audio_data.proofs.ScfsiLaws.{comes-back, back-agrees, agreeing-true, agrees-true, of-code}
 use Rattle.canonical_form.specs.Fewest.{Carries, fewestBy, fewestScfsi, FewestIs}
 
 -- ---- which can carry three indices
@@ -28,12 +28,6 @@ module _ (t : Three) where
   abbrev lasts : Bool
   lasts = eqb (t .second) (t .third)
 
-  agreed : (c : Scfsi) → Carries c t → Agrees c t
-  agreed ThreePerGranule e = tt
-  agreed Share01Then2 e = ap (λ (u : Three). u .second) e
-  agreed ShareAll e = (ap (λ (u : Three). u .second) e, sym (ap (λ (u : Three). u .second) e) ∙ ap (λ (u : Three). u .third) e)
-  agreed Share0Then12 e = sym (ap (λ (u : Three). u .second) e)
-
   can-is : (c : Scfsi) → can firsts lasts c ≡ agreeing c t
   can-is ThreePerGranule = refl
   can-is Share01Then2 = refl
@@ -41,9 +35,9 @@ module _ (t : Three) where
   can-is Share0Then12 = refl
 
   can-carry : (c : Scfsi) → Carries c t → can firsts lasts c ≡ true
-  can-carry c e = can-is c ∙ agrees-true c t (agreed c e)
+  can-carry c e = can-is c ∙ agrees-true c t (back-agrees c t e)
 
-  pub can-agree : (c : Scfsi) → can firsts lasts c ≡ true → Agrees c t
+  can-agree : (c : Scfsi) → can firsts lasts c ≡ true → Agrees c t
   can-agree c e = agreeing-true c t (sym (can-is c) ∙ e)
 
 -- ---- the test: one that can carry them is the chosen, or sends more

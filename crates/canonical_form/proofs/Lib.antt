@@ -1,5 +1,5 @@
 pub mod FewestLaws
 pub mod AgreeLaws
 pub mod NumberLaws
-pub mod PlainLaws
+pub mod BareLaws
 pub mod PromiseLaws

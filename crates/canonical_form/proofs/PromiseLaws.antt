@@ -1,8 +1,8 @@
 -- The whole answer keeps its promises.
-use mathlib.Core.Path.{_≡_, refl, sym, ap, ap₂, _∙_, subst}
+use mathlib.Core.Path.{_≡_, refl, sym, ap, _∙_, subst}
 use mathlib.Core.Bool.{Bool, true, false, cond}
-use mathlib.Core.List.{List, [], _∷_}
-use Prim.Native.Nat.{ℕ, _+_, _*_, _≤_, zero-le}
+use mathlib.Core.List.{List, []}
+use Prim.Native.Nat.{ℕ, _+_, _≤_, zero-le}
 use native.Mathlib.Decide.{ℕ-discrete}
 use native.Mathlib.Omega.{arith}
 use lib.Dec.{eqb}
@@ -18,30 +18,28 @@ use Rattle.audio_data.specs.Scfsi.{partsOf}
 use Rattle.audio_data.proofs.ScfsiLaws.{comes-back}
 use Rattle.side_info.specs.SideInfo.{SideInfo, scfsiIn, scalefactorsIn, headerLayout, activeSlots, sideInfoBits, recordAsked, slotCount}
 use Rattle.side_info.proofs.CountLaws.{counted}
-use Rattle.side_info.proofs.ListLaws.{Each, each-of}
+use Rattle.side_info.proofs.FlatLaws.{sum-least}
+use Rattle.side_info.proofs.ListLaws.{each-of}
 use Rattle.record_check.specs.Together.{HangsTogether}
 use Rattle.record_check.specs.declared.RecordCheck.{RecordCheck}
 use Rattle.record_check.specs.Check.{checkOf}
 use Rattle.record_check.proofs.PromiseLaws as Check
 use Rattle.side_info_writer.specs.declared.WrittenSideInfo.{WrittenSideInfo}
-use Rattle.side_info_writer.specs.Written.{written, whereZero, writerAsked, writtenOf}
+use Rattle.side_info_writer.specs.Written.{whereZero, writerAsked, writtenOf}
 use Rattle.side_info_writer.proofs.WholeLaws as Writer
 use Rattle.side_info_reading.specs.declared.ReadSideInfo.{ReadSideInfo}
 use Rattle.side_info_reading.specs.Read.{read, recordIn, readOf}
+use Rattle.side_info_reading.proofs.SlotLaws.{active-slot}
 use Rattle.side_info_reading.proofs.ReadLaws as Read
 use Rattle.side_info_reading.proofs.PassLaws.{read-passes}
 use Rattle.canonical_form.specs.Fewest.{fewestScfsi, chosen, canonical}
 use Rattle.canonical_form.specs.Canonical.{canonicalOf, BothAccept, SaysTheSame, withScfsi, CanonicalIs}
 use Rattle.canonical_form.proofs.FewestLaws.{fewest-least}
-use Rattle.canonical_form.proofs.AgreeLaws.{written-same, canonical-agree, says-turned, says-on, scfsi-chosen, active-slot}
+use Rattle.canonical_form.proofs.AgreeLaws.{written-same, canonical-agree, says-turned, says-on, scfsi-chosen}
 use Rattle.canonical_form.proofs.NumberLaws.{together, is-refused, is-written, same-number}
-use Rattle.canonical_form.proofs.PlainLaws.{plain, says-plain, read-plain}
+use Rattle.canonical_form.proofs.BareLaws.{bare, says-bare, read-bare}
 
 -- ---- how many bits
-
-sum-least : {A : Type 0} (f g : A → ℕ) (xs : List A) → Each (λ x. f x ≤ g x) xs → sumOver f xs ≤ sumOver g xs
-sum-least f g [] e = zero-le
-sum-least f g (x ∷ xs) e = let i = sum-least f g xs (e .1) in let j = e .0 in omega arith
 
 module _ (l : Layout) (s : SideInfo) (whole : HangsTogether l s) where
   -- a slot
@@ -70,19 +68,19 @@ module _ (h : FrameHeader) (s : SideInfo) where
 
   -- ---- of an accepted record
 
-  -- without the number 0 from the check there is none
-  pub checked-zero : canonicalOf h s .number ≡ 0 → checkOf h s .number ≡ 0
+  -- what is accepted passed the check
+  checked-zero : canonicalOf h s .number ≡ 0 → checkOf h s .number ≡ 0
   checked-zero z = go (ℕ-discrete (checkOf h s .number) 0)
     where
       go : Dec (checkOf h s .number ≡ 0) → checkOf h s .number ≡ 0
       go (yes e) = e
       go (no n) = sym (ap (λ (w : WrittenSideInfo). w .number) (is-refused h s n)) ∙ z
 
-  is-read : canonicalOf h s .number ≡ 0 → readOf h (canonicalOf h s .bytes) ≡ read 0 (plain l s) (canonicalOf h s .«bits_used»)
-  is-read z = let c = checked-zero z in read-plain h s (canonicalOf h s) (together h s c) (is-written h s c) z
+  is-read : canonicalOf h s .number ≡ 0 → readOf h (canonicalOf h s .bytes) ≡ read 0 (bare l s) (canonicalOf h s .«bits_used»)
+  is-read z = let c = checked-zero z in read-bare h s (canonicalOf h s) (together h s c) (is-written h s c) z
 
   -- what is read is written so again
-  is-again : canonicalOf h s .number ≡ 0 → canonicalOf h (plain l s) ≡ canonicalOf h s
+  is-again : canonicalOf h s .number ≡ 0 → canonicalOf h (bare l s) ≡ canonicalOf h s
   is-again z =
       let bytes = canonicalOf h s .bytes in
       let r = readOf h bytes in
@@ -90,9 +88,9 @@ module _ (h : FrameHeader) (s : SideInfo) where
       let passed : checkOf h (recordIn r) .number ≡ 0 =
           ap (λ (c : RecordCheck). c .number)
           (read-passes h bytes r .passes (Read.promises h bytes r refl) (ap (λ (v : ReadSideInfo). v .number) e) (checkOf h (recordIn r)) (Check.promises h (recordIn r) (checkOf h (recordIn r)) refl)) in
-      let p : checkOf h (plain l s) .number ≡ 0 = ap (λ (v : ReadSideInfo). checkOf h (recordIn v) .number) (sym e) ∙ passed in
-      is-written h (plain l s) p
-      ∙ written-same h (canonical (plain l s)) (canonical s) (canonical-agree l (plain l s) s (says-turned l s (plain l s) (says-plain l s)))
+      let p : checkOf h (bare l s) .number ≡ 0 = ap (λ (v : ReadSideInfo). checkOf h (recordIn v) .number) (sym e) ∙ passed in
+      is-written h (bare l s) p
+      ∙ written-same h (canonical (bare l s)) (canonical s) (canonical-agree l (bare l s) s (says-turned l s (bare l s) (says-bare l s)))
       ∙ sym (is-written h s (checked-zero z))
 
   -- whichever scfsi the check accepts
@@ -119,17 +117,17 @@ module _ (h : FrameHeader) where
       is-written h s z ∙ written-same h (canonical s) (canonical t) (canonical-agree (headerLayout h) s t e) ∙ sym (is-written h t y)
 
   -- accepted by both, accepted here
-  both-zero : (s : SideInfo) → BothAccept h s → canonicalOf h s .number ≡ 0
-  both-zero s a = same-number h s (a .1) ∙ a .0
+  both-accepted : (s : SideInfo) → BothAccept h s → canonicalOf h s .number ≡ 0
+  both-accepted s a = same-number h s (a .1) ∙ a .0
 
   -- equal bytes read alike
   one-record : (s t : SideInfo) → BothAccept h s → BothAccept h t → canonicalOf h s .bytes ≡ canonicalOf h t .bytes → SaysTheSame (headerLayout h) s t
   one-record s t a b e =
       let l = headerLayout h in
-      let same : plain l s ≡ plain l t =
-          ap recordIn (sym (is-read h s (both-zero s a)) ∙ ap (readOf h) e ∙ is-read h t (both-zero t b)) in
-      says-on l s (plain l s) t (says-plain l s)
-      (subst (λ (p : SideInfo). SaysTheSame l p t) (sym same) (says-turned l t (plain l t) (says-plain l t)))
+      let same : bare l s ≡ bare l t =
+          ap recordIn (sym (is-read h s (both-accepted s a)) ∙ ap (readOf h) e ∙ is-read h t (both-accepted t b)) in
+      says-on l s (bare l s) t (says-bare l s)
+      (subst (λ (p : SideInfo). SaysTheSame l p t) (sym same) (says-turned l t (bare l t) (says-bare l t)))
 
   pub promises : (s : SideInfo) (w : WrittenSideInfo) → w ≡ canonicalOf h s → CanonicalIs h s w
   promises s w e = subst (CanonicalIs h s) (sym e) (record {
@@ -141,7 +139,7 @@ module _ (h : FrameHeader) where
     same-bytes = λ a t b bytes. one-record s t a b bytes;
     reads = λ z. ap (λ (v : ReadSideInfo). v .number) (is-read h s z);
     used = λ z. ap (λ (v : ReadSideInfo). v .«bits_used») (is-read h s z);
-    back = λ z. subst (λ (v : ReadSideInfo). SaysTheSame (headerLayout h) s (recordIn v)) (sym (is-read h s z)) (says-plain (headerLayout h) s);
+    back = λ z. subst (λ (v : ReadSideInfo). SaysTheSame (headerLayout h) s (recordIn v)) (sym (is-read h s z)) (says-bare (headerLayout h) s);
     again = λ z. ap (λ (v : ReadSideInfo). canonicalOf h (recordIn v)) (is-read h s z) ∙ is-again h s z;
     shortest = is-shortest h s
   })

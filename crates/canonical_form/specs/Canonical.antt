@@ -55,7 +55,7 @@ abbrev pub withScfsi : List ScfsiSlot → SideInfo → SideInfo
 withScfsi c s = sideInfo (s .steps) c (s .scalefactors)
 
 pub record CanonicalIs (h : FrameHeader) (s : SideInfo) (w : WrittenSideInfo) : Type 0 where
-  -- the whole answer; what follows says it again without the list of questions
+  -- the whole answer; `refused`, `accepted` and `chosen` say it again without the list of questions
   pub whole : w ≡ canonicalOf h s
   -- what `check_record` refuses has its number, 174 zeros and no bits
   pub refused : (checkOf h s .number ≡ 0 → ⊥) → w ≡ written (checkOf h s .number) []

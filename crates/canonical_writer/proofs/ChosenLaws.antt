@@ -15,13 +15,11 @@ module _ (scalefactors : List ℕ) where
 
   -- so many are filled in
   pub record ChosenTo (slots : List ScfsiSlot) (n : ℕ) : Type 0 where
-    pub inside : n ≤ 64
     pub long : length slots ≡ 64
     pub each : (k : ℕ) → k < n → getD slots k idleScfsi ≡ chosenAt k
 
   pub one-chosen : (slots : List ScfsiSlot) (n : ℕ) (s : ScfsiSlot) → n < 64 → s ≡ chosenAt n → ChosenTo slots n → ChosenTo (set slots n s) (n + 1)
   one-chosen slots n s h e c = record {
-    inside = omega arith;
     long = simp length-set (c .long);
     each = filled (λ k x. x ≡ chosenAt k) slots n s idleScfsi (let l = c .long in omega arith) (c .each) e
   }

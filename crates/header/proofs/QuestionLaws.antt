@@ -27,6 +27,14 @@ abbrev pub refusing : List (Question ℕ) → Bool
 refusing [] = true
 refusing (q ∷ qs) = not (eqb (q .otherwise) 0) && refusing qs
 
+pub refusing-both : (qs rs : List (Question ℕ)) → T (refusing qs) → T (refusing rs) → T (refusing (qs ++ rs))
+refusing-both [] rs t u = u
+refusing-both (q ∷ qs) rs t u = go (not (eqb (q .otherwise) 0)) (refusing-both qs rs) t
+  where
+    go : (v : Bool) → (T (refusing qs) → T (refusing rs) → T (refusing (qs ++ rs))) → T (v && refusing qs) → T (v && refusing (qs ++ rs))
+    go true ih t = ih t u
+    go false ih t = t
+
 -- where all are answered yes, what follows decides
 pub all-yes : (n : ℕ) (qs : List (Question ℕ)) → T (refusing qs) → number qs ≡ 0 → firstNo n qs ≡ n
 all-yes n [] t e = refl
@@ -69,3 +77,13 @@ decided f b (q ∷ qs) t = go (decided f b qs) (q .yes) (eqb (q .otherwise) 0) r
     go rest v true z t = absurd t
     go rest true false z t = rest t
     go rest false false z t = rw z
+
+-- questions told otherwise, and their numbers read off again
+pub told-back : {B : Type 0} (g : B → ℕ) (f : ℕ → B) → ((n : ℕ) → g (f n) ≡ n) → (b : B) (qs : List (Question ℕ)) → g (firstNo b (telling f qs)) ≡ firstNo (g b) qs
+told-back g f e b [] = refl
+told-back g f e b (q ∷ qs) = go (q .yes) (told-back g f e b qs)
+  where
+    go : (v : Bool) → g (firstNo b (telling f qs)) ≡ firstNo (g b) qs
+      → _≡_ {A = ℕ} (g (elim v [ true ↦ firstNo b (telling f qs) | false ↦ f (q .otherwise) ])) (elim v [ true ↦ firstNo (g b) qs | false ↦ q .otherwise ])
+    go true ih = ih
+    go false ih = e (q .otherwise)

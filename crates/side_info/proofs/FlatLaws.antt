@@ -8,6 +8,7 @@ use native.Mathlib.Omega.{arith}
 use lib.ListN.{length, getD, drop, length-append, drop-of-length-le}
 use lib.Seq.{drop-cons}
 use Rattle.layout.specs.Layout.{sumOver}
+use Rattle.side_info.proofs.ListLaws.{Each}
 
 -- ---- from an entry on
 
@@ -33,6 +34,10 @@ module _ {A : Type 0} where
   pub sum-sum : (f g h : A → ℕ) → ((x : A) → f x + g x ≡ h x) → (xs : List A) → sumOver f xs + sumOver g xs ≡ sumOver h xs
   sum-sum f g h e [] = refl
   sum-sum f g h e (x ∷ xs) = let i = sum-sum f g h e xs in let j = e x in omega arith
+
+  pub sum-least : (f g : A → ℕ) (xs : List A) → Each (λ x. f x ≤ g x) xs → sumOver f xs ≤ sumOver g xs
+  sum-least f g [] e = zero-le
+  sum-least f g (x ∷ xs) e = let i = sum-least f g xs (e .1) in let j = e .0 in omega arith
 
   pub sum-most : (f : A → ℕ) (c : ℕ) → ((x : A) → f x ≤ c) → (xs : List A) → sumOver f xs ≤ c * length xs
   sum-most f c e [] = zero-le

@@ -1,7 +1,7 @@
 -- Laws of each of a list, of numbers that a list has, and of lists whose numbers are all different.
 use mathlib.Core.Path.{_≡_, refl, sym, ap₂, subst}
 use mathlib.Core.Bool.{Bool, true, false, _||_, true≢false}
-use mathlib.Core.List.{List, [], _∷_, _++_}
+use mathlib.Core.List.{List, [], _∷_, _++_, map, flatMap}
 use Prim.Native.Nat.{ℕ, zero, suc, _<_, suc-le-suc}
 use native.Mathlib.Nat.{zero-lt-suc, not-suc-le-zero, le-of-suc-le-suc}
 use lib.Dec.{eqb}
@@ -33,6 +33,17 @@ module _ {A : Type 0} where
   each-get P d [] e k h = absurd (not-suc-le-zero h)
   each-get P d (x ∷ xs) e zero h = e .0
   each-get P d (x ∷ xs) e (suc k) h = each-get P d xs (e .1) k (le-of-suc-le-suc h)
+
+-- lists that are made of equal parts
+module _ {A B : Type 0} where
+  pub flat-each : (f g : A → List B) (xs : List A) → Each (λ x. f x ≡ g x) xs → flatMap f xs ≡ flatMap g xs
+  unfolding flatMap
+  flat-each f g [] e = refl
+  flat-each f g (x ∷ xs) e = ap₂ _++_ (e .0) (flat-each f g xs (e .1))
+
+  pub map-each : (f g : A → B) (xs : List A) → Each (λ x. f x ≡ g x) xs → map f xs ≡ map g xs
+  map-each f g [] e = refl
+  map-each f g (x ∷ xs) e = ap₂ _∷_ (e .0) (map-each f g xs (e .1))
 
 -- ---- numbers that a list has
 

@@ -16,16 +16,11 @@ use Rattle.side_info.specs.SideInfo.{SideInfo, sideInfo, scfsiIn, scalefactorsI
 use Rattle.side_info_reading.specs.Taken.{got}
 use Rattle.side_info_reading.specs.Reading.{fieldTaken, scfsiTaken, threeTaken, inSlots, inSlot, inGranules, nothing, allocationTaken, scfsisTaken, scalefactorsTaken, withScfsi, withSteps, sideInfoTaken}
 use Rattle.side_info_reading.specs.Read.{Restorable}
-use Rattle.side_info.proofs.ListLaws.{Each, each-map, each-both, each-one, each-of}
+use Rattle.side_info.proofs.ListLaws.{Each, each-map, each-both, each-one, each-of, flat-each}
 use Rattle.side_info_reading.proofs.TakenLaws.{then-got, Sent, each-back}
 use Rattle.side_info.proofs.AskedLaws.{FieldYes, RecordYes}
-use Rattle.side_info_reading.proofs.SlotLaws.{Field, each-field, slotsFor, field-slots-small, slots-of-fields, active-below, alone, threePlaces, three-of}
+use Rattle.side_info_reading.proofs.SlotLaws.{Field, each-field, slotsFor, field-slots-small, slots-of-fields, active-below, active-slot, alone, threePlaces, three-of}
 use Rattle.side_info_reading.proofs.PartLaws.{field-sent, same-held, steps-placed, scfsi-sent, three-sent}
-
-flat-same : {A B : Type 0} (f g : A → List B) → ((x : A) → f x ≡ g x) → (xs : List A) → flatMap f xs ≡ flatMap g xs
-unfolding flatMap
-flat-same f g e [] = refl
-flat-same f g e (x ∷ xs) = ap₂ _++_ (e x) (flat-same f g e xs)
 
 -- where the places are the slots that a list has, elsewhere the target is blank
 or-else : {C : Type 0} (d : C) (n : ℕ) (target : List C) (places ks : List ℕ) → places ≡ ks → ((k : ℕ) → oneOf ks k ≡ false → getD target k d ≡ d)
@@ -55,7 +50,7 @@ module _ (l : Layout) (r : SideInfo) (whole : Restorable l r) (yes : RecordYes l
       (each-map _ _ field-back (fieldsOf l) (each-both (Field l) (FieldYes l r) (fieldsOf l) (each-field l) (yes .fields)))
       (length-replicate {A = ℕ} 64 0 ∙ sym (whole .steps-long))
       (or-else 0 64 (r .steps) _ (slotsOf l)
-        (flat-same _ slotsFor (λ x. steps-placed x (fieldSteps (r .steps) x)) (fieldsOf l) ∙ slots-of-fields l) (whole .outside))
+        (flat-each _ slotsFor (fieldsOf l) (each-map (Field l) _ (λ x f. steps-placed x (fieldSteps (r .steps) x)) (fieldsOf l) (each-field l)) ∙ slots-of-fields l) (whole .outside))
 
   -- ---- the scfsi
 
@@ -92,7 +87,7 @@ module _ (l : Layout) (r : SideInfo) (whole : Restorable l r) (yes : RecordYes l
   scalefactors-back rest =
       each-back (λ slot. threeTaken (scfsiIn r slot)) inGranules 0 (scalefactorsIn r) (scalefactorBits r) active (replicate 192 0) (r .scalefactors) rest
       (each-of SlotSent active (λ slot has.
-        let small : slot < 64 = each-one (λ k. k < 64) active slot (active-below l (r .steps)) has in
+        let small = active-slot l (r .steps) slot has in
         record {
           taken = λ rest. three-sent (scfsiIn r slot) (scalefactorsIn r slot) rest
             (each-one (λ k. tabled (scalefactorsIn r k) ≡ true) active slot (yes .slots) has) (whole .agrees slot has);

@@ -17,7 +17,7 @@ use Rattle.layout.proofs.FieldLaws.{carried, serves-first, channel-small}
 use Rattle.layout.proofs.WireLaws.{slot-small, slots-differ}
 use Rattle.side_info.specs.SideInfo.{activeAmong, activeSlots}
 use Rattle.side_info.proofs.ActiveLaws.{active-has}
-use Rattle.side_info.proofs.ListLaws.{Each, each-at, Distinct, distinct-at}
+use Rattle.side_info.proofs.ListLaws.{Each, each-at, each-one, Distinct, distinct-at}
 
 -- ---- of fields
 
@@ -90,6 +90,9 @@ module _ (l : Layout) (steps : List ℕ) where
   pub active-below : Each (λ k. k < 64) (activeSlots l steps)
   unfolding activeSlots
   active-below = active-small steps (slotsOf l) (slots-small l)
+
+  pub active-slot : (slot : ℕ) → oneOf (activeSlots l steps) slot ≡ true → slot < 64
+  active-slot slot h = each-one (λ k. k < 64) (activeSlots l steps) slot active-below h
 
 -- ---- of what a slot has alone, and of its three scalefactors
 

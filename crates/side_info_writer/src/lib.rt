@@ -25,8 +25,8 @@ use pen::Pen;
 // The bytes that hold the longest side information, 1388 bits.
 pub const SIDE_INFO_BYTES: usize = 174;
 
-// What a writer of side information answers: the answer's number; the bytes, most significant bit first, with zeros behind the last bit that is used; and how many
-// bits are used. Beside a refusal every byte is 0, and no bit is used.
+// What a writer of side information answers: the answer's number; the bytes, most significant bit first, with zeros behind the last bit that is used; and
+// how many bits are used. Beside a refusal every byte is 0, and no bit is used.
 pub struct WrittenSideInfo {
     pub number: u32,
     pub bytes: [u8; SIDE_INFO_BYTES],

@@ -29,6 +29,14 @@ module _ {A : Type 0} where
   length-tabulate zero f = refl
   length-tabulate (suc n) f = ap suc (length-tabulate n (λ k. f (suc k)))
 
+  -- where an entry is the default, so is what stands behind the end
+  pub or-behind : (n : ℕ) (f : ℕ → A) (k : ℕ) (d : A) → (k < n → f k ≡ d) → getD (tabulate n f) k d ≡ d
+  or-behind n f k d e = go (decLt k n)
+    where
+      go : Dec (k < n) → getD (tabulate n f) k d ≡ d
+      go (yes h) = tabulated n f k d h ∙ e h
+      go (no h) = List·getD-eq-default (tabulate n f) d {n = k} (rw (length-tabulate n f) (omega arith))
+
   -- a list that has f's entries is f's list
   pub listed : (n : ℕ) (f : ℕ → A) (d : A) (xs : List A) → length xs ≡ n → ((k : ℕ) → k < n → getD xs k d ≡ f k) → xs ≡ tabulate n f
   listed n f d xs e b =

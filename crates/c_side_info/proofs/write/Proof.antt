@@ -1,11 +1,14 @@
 -- `c_side_info::write` meets its contract: the reply is what the writer answers for the record that is read.
 use Prim.Native.Nat.{_≤_}
-use mathlib.Core.Path.{refl, sym, ap, _∙_}
-use mathlib.Core.Bool.{Bool}
+use mathlib.Core.Path.{_≡_, refl, sym, ap, _∙_}
+use mathlib.Core.Bool.{Bool, _||_}
+use lib.Dec.{ltb}
 use lib.ListN.{length}
 use borrow.Author.Needs.{needs}
 use Rattle.c_answers.proofs.AnswerLaws.{both-long, refused-by, replied}
 use Rattle.c_answers.specs.Arguments.{headerNumbered, headerFrom}
+use Rattle.c_answers.specs.Answers.{meant}
+use Rattle.c_side_info.specs.Arguments.{frame, frameNumbered}
 use Rattle.c_side_info.specs.Parts.{recordFrom, writtenBy, bytesBy, bitsBy}
 use Rattle.c_side_info.specs.Replies.{bytesIn, bitsIn}
 use Rattle.c_side_info.proofs.RecordLaws.{none-short, no-record, a-record}
@@ -21,6 +24,16 @@ start c = past c .before .before .before .before .before .before .before .before
 
 long : (c : tie.After-scalefactor) → (174 ≤ length (start c .args .bytes .now)) × (1 ≤ length (start c .args .out .now))
 long c = both-long _ 174 _ 1 (none-short _ _ _ _ _ (past c .before .before .record-given .ensures) (past c .if1 .left))
+
+-- what the arguments mean: the header with the record
+means : (c : tie.After-scalefactor)
+  → frameNumbered (ltb (length (start c .args .bytes .now)) 174 || ltb (length (start c .args .out .now)) 1)
+      (start c .args .given) (start c .args .steps .now) (start c .args .scfsi .now) (start c .args .index .now)
+    ≡ meant (frame (c .before .before .before .before .header .given .0 .0) (recordFrom (past c .before .before .record-given .result)))
+means c =
+    let told = c .before .before .before .before in
+    a-record _ _ _ _ _ _ (past c .before .before .record-given .ensures) _ (past c .if1 .left)
+    (sym (told .before .before .header-given .ensures) ∙ ap headerFrom (told .header .given .1))
 
 record-given-requires : tie.Need-record-given-requires
 record-given-requires c κs = search needs
@@ -43,11 +56,11 @@ enum-told c = search needs
 
 returns-2 : tie.Need-returns-2
 returns-2 c =
-    let given = c .before .before in
-    let past = given .before in
+    let asked = c .before .before in
+    let read = asked .before in
     let e =
-        a-record _ _ _ _ _ _ (past .before .before .record-given .ensures) _ (past .if1 .left)
-        (sym (given .header-given .ensures) ∙ ap headerFrom (c .enum-told .given .1)) in
+        a-record _ _ _ _ _ _ (read .before .before .record-given .ensures) _ (read .if1 .left)
+        (sym (asked .header-given .ensures) ∙ ap headerFrom (c .enum-told .given .1)) in
     (refused-by _ _ _ _ e, refused-by _ _ _ _ e)
 
 write-side-info-canonical-requires : tie.Need-write-side-info-canonical-requires
@@ -73,16 +86,13 @@ returns-3 c =
     let put = c .before .before .before .before in
     let wrote = put .before .before .before in
     let read = wrote .before .before in
-    let told = read .before .before .before .before in
-    let meant =
-        a-record _ _ _ _ _ _ (past read .before .before .record-given .ensures) _ (past read .if1 .left)
-        (sym (told .before .before .header-given .ensures) ∙ ap headerFrom (told .header .given .1)) in
+    let header = read .before .before .before .before .header .given .0 .0 in
     let canonical = start read .args .canonical in
     let side = recordFrom (past read .before .before .record-given .result) in
-    let whole = wrote .write-side-info-canonical .ensures .whole ∙ ap (λ (b : Bool). writtenBy b (told .header .given .0 .0) side) (sym (wrote .before .if2 .taken)) in
+    let whole = wrote .write-side-info-canonical .ensures .whole ∙ ap (λ (b : Bool). writtenBy b header side) (sym (wrote .before .if2 .taken)) in
     (
-      replied _ (bytesBy canonical) _ _ _ _ bytesIn _ _ meant whole refl (put .put-written .ensures .0),
-      replied _ (bitsBy canonical) _ _ _ _ bitsIn _ _ meant whole refl (put .put-written .ensures .1)
+      replied _ (bytesBy canonical) _ _ _ _ bytesIn _ _ (means read) whole refl (put .put-written .ensures .0),
+      replied _ (bitsBy canonical) _ _ _ _ bitsIn _ _ (means read) whole refl (put .put-written .ensures .1)
     )
 
 same-length-3 : tie.Need-same-length-3
@@ -96,16 +106,13 @@ returns-4 c =
     let put = c .before .before .before .before in
     let wrote = put .before .before .before in
     let read = wrote .before .before in
-    let told = read .before .before .before .before in
-    let meant =
-        a-record _ _ _ _ _ _ (past read .before .before .record-given .ensures) _ (past read .if1 .left)
-        (sym (told .before .before .header-given .ensures) ∙ ap headerFrom (told .header .given .1)) in
+    let header = read .before .before .before .before .header .given .0 .0 in
     let canonical = start read .args .canonical in
     let side = recordFrom (past read .before .before .record-given .result) in
-    let whole = wrote .write-side-info .ensures .whole ∙ ap (λ (b : Bool). writtenBy b (told .header .given .0 .0) side) (sym (wrote .before .if2 .left)) in
+    let whole = wrote .write-side-info .ensures .whole ∙ ap (λ (b : Bool). writtenBy b header side) (sym (wrote .before .if2 .left)) in
     (
-      replied _ (bytesBy canonical) _ _ _ _ bytesIn _ _ meant whole refl (put .put-written2 .ensures .0),
-      replied _ (bitsBy canonical) _ _ _ _ bitsIn _ _ meant whole refl (put .put-written2 .ensures .1)
+      replied _ (bytesBy canonical) _ _ _ _ bytesIn _ _ (means read) whole refl (put .put-written2 .ensures .0),
+      replied _ (bitsBy canonical) _ _ _ _ bitsIn _ _ (means read) whole refl (put .put-written2 .ensures .1)
     )
 
 pub write-spec : {M : Type 1} → statement M

@@ -15,7 +15,7 @@ abbrev μ-loop : tie.MeasureT-loop
 μ-loop scalefactor slots₀ slot₀ slots slot = 64 - slot
 
 loop-holds : tie.Need-loop-holds Inv-loop μ-loop
-loop-holds c = record { inside = omega arith; long = refl; each = λ k h. absurd (omega arith) }
+loop-holds c = record { long = refl; each = λ k h. absurd (omega arith) }
 
 mul-at : tie.Need-mul-at Inv-loop μ-loop
 mul-at c = search needs
