@@ -120,7 +120,7 @@ unfolding chosen
 scfsi-chosen s slot h = ap (λ (x : ScfsiSlot). x .scfsi) (tabulated 64 (λ k. record { scfsi = fewestScfsi (scalefactorsIn s k) }) slot idleScfsi h)
 
 module _ (l : Layout) where
-  -- they are canonical alike
+  -- their canonical records agree where the writer looks
   pub canonical-agree : (s t : SideInfo) → SaysTheSame l s t → Agree l (canonical s) (canonical t)
   canonical-agree s t e = record {
     steps = e .steps;

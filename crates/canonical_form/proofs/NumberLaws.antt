@@ -89,7 +89,7 @@ module _ (h : FrameHeader) (s : SideInfo) where
   unfolding recordAsked
   scfsi-unasked = refl
 
-  -- what it accepts is written as it is canonical
+  -- what it accepts has the writer's answer to the canonical record
   pub is-written : checkOf h s .number ≡ 0 → canonicalOf h s ≡ writtenOf h (canonical s)
   unfolding canonicalOf writtenOf
   is-written z = ap (λ (m : ℕ). written m (whereZero m (sideInfoBits l (canonical s)))) (number-accepted z ∙ sym scfsi-unasked)
