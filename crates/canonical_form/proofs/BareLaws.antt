@@ -42,6 +42,7 @@ module _ (l : Layout) (s : SideInfo) where
   abbrev indexAt : ℕ → ℕ
   indexAt k = cond (is-active (k / 3)) (getD (s .scalefactors) k 0) 0
 
+  -- the chosen scfsi and the indices of active slots, and nothing in idle ones
   unfoldable pub bare : SideInfo
   bare = sideInfo (tabulate 64 stepsAt) (tabulate 64 scfsiAt) (tabulate 192 indexAt)
 
