@@ -187,12 +187,13 @@ uint32_t folgrist_check_record(uint8_t lsf, uint32_t bit_rate, uint32_t sample_r
                                const uint8_t *index, size_t index_len, uint32_t *out, size_t out_len);
 
 /* The side information of the header's frame in one form, for records that are compared byte by byte. steps, scfsi and index: the record, as
- * folgrist_write_side_info takes it. It is written as by that function, but each slot that has steps with the scfsi that sends the fewest indices: FOLGRIST_SHARE_ALL where its three indices are equal,
- * FOLGRIST_SHARE_01_THEN_2 or FOLGRIST_SHARE_0_THEN_12 where only the first two or only the last two are, else FOLGRIST_THREE_PER_GRANULE. The
- * indices stay as they are; folgrist_select_scfsi, which may change them, is another choice. The scfsi given is asked about as
- * folgrist_check_record asks, and not written. Two accepted records of one header have the same bytes exactly where their steps are equal, and so are
- * the indices of the slots that have steps. All that folgrist_check_record asks is asked first; then 7 of every field, then 8 of every slot that has
- * steps. bytes and out: as folgrist_write_side_info has them; never more bits than that writes of the same record.
+ * folgrist_write_side_info takes it. It is written as by that function, but each slot that has steps with the scfsi that sends the fewest
+ * indices: FOLGRIST_SHARE_ALL where its three indices are equal, FOLGRIST_SHARE_01_THEN_2 or FOLGRIST_SHARE_0_THEN_12 where only the first two
+ * or only the last two are, else FOLGRIST_THREE_PER_GRANULE. The indices stay as they are; folgrist_select_scfsi, which may change them, is
+ * another choice. The scfsi given is asked about as folgrist_check_record asks, and not written. Two accepted records of one header have the
+ * same bytes exactly where their steps are equal, and so are the indices of the slots that have steps. All that folgrist_check_record asks is
+ * asked first; then 7 of every field, then 8 of every slot that has steps. bytes and out: as folgrist_write_side_info has them; never more bits
+ * than that writes of the same record.
  * Answers 0, 1, 2, 6, 7, 8, 14, 16, 17, 18, 98. */
 uint32_t folgrist_write_side_info_canonical(uint8_t lsf, uint32_t bit_rate, uint32_t sample_rate, uint8_t padding, uint8_t protection_bit,
                                             uint8_t mode, uint8_t mode_extension, const uint32_t *steps, size_t steps_len,
