@@ -16,7 +16,6 @@ use lib.Count.{leadingZeros}
 use lib.ListN.{length, getD, replicate}
 use Rattle.tables.proofs.Listed.{tabulated}
 use Rattle.bitalloc.specs.Storage.{rowOf16, firstOfThree}
-use Rattle.table_rows.specs.Changes.{storedAB, storedCD, storedLsf, widthBy, WidthIs}
 use Rattle.tables.specs.Search.{entryAt}
 use Rattle.tables.specs.Sum.{sumBelow}
 use Rattle.tables.proofs.Rule.{first, second, allBelow, below, all, all-at, ordered, ordered-at}
@@ -111,25 +110,6 @@ module _ (P : ℕ → List ℕ → Type 0) (kept : (n : ℕ) (row : List ℕ) �
           let l : sblimitOf t ≤ sb = omega arith in
           rw (no-field t sb l, no-row t sb l) no-place
 
--- how many places a row has: none without a field
-abbrev pub placesFor : ℕ → ℕ
-placesFor n = cond (eqb n 0) 0 (2 ^ n)
-
-pub row-places : (t : BitAllocTable) (sb : ℕ) → length (rowOf t sb) ≡ placesFor (nbalOf t sb)
-row-places =
-    everywhere (λ n row. length row ≡ placesFor n)
-    (λ n row r. rw (ne-eqb n 0 (λ e. let l = r .least in omega arith)) (r .places)) refl
-
--- the two ways in which the code finds that number
-pub no-places : (t : BitAllocTable) (sb n : ℕ) → NbalIs t sb n → n ≡ 0 → 0 ≡ length (rowOf t sb)
-no-places t sb n p z = sym (row-places t sb ∙ rw (eq-eqb (nbalOf t sb) 0 (sym (p .whole) ∙ z)))
-
-pub some-places : (t : BitAllocTable) (sb n : ℕ) → NbalIs t sb n → (n ≡ 0 → ⊥) → (1 * 2 ^ n) % 2 ^ 64 ≡ length (rowOf t sb)
-some-places t sb n p nz =
-    mod-eq-of-lt (rw one-mul (lt-of-le-of-lt (pow-mono (p .small)) (lit< tt)))
-    ∙ one-mul (2 ^ n) ∙ ap (λ (n : ℕ). 2 ^ n) (p .whole)
-    ∙ sym (row-places t sb ∙ rw (ne-eqb (nbalOf t sb) 0 (λ z. nz (p .whole ∙ z))))
-
 pub places-small : (t : BitAllocTable) (sb : ℕ) → length (rowOf t sb) ≤ 16
 places-small = everywhere (λ n row. length row ≤ 16) (λ n row r. rw (r .places) (pow-mono (r .most))) (lit≤ tt)
 
@@ -151,57 +131,6 @@ row-number t sb p row e h =
 -- what the code reads at a place of a row
 pub row-steps : (t : BitAllocTable) (sb i : ℕ) (row : List ℕ) → row ≡ rowOf16 t sb → i < length (rowOf t sb) → getD row i 0 ≡ getD (rowOf t sb) i 0
 row-steps t sb i row e h = row-number t sb i row e (lt-of-lt-of-le h (places-small t sb))
-
--- the row by the subbands at which the code changes from one row to the next
-abbrev pub stored : BitAllocTable → ℕ → List ℕ
-stored B2a sb = storedAB sb 27
-stored B2b sb = storedAB sb 30
-stored B2c sb = storedCD sb 8
-stored B2d sb = storedCD sb 12
-stored B1Lsf sb = storedLsf sb 30
-
-alike : List ℕ → List ℕ → Bool
-alike [] [] = true
-alike [] (y ∷ ys) = false
-alike (x ∷ xs) [] = false
-alike (x ∷ xs) (y ∷ ys) = eqb x y && alike xs ys
-
-alike→eq : (xs ys : List ℕ) → T (alike xs ys) → xs ≡ ys
-unfolding alike
-alike→eq [] [] t = refl
-alike→eq [] (y ∷ ys) t = absurd t
-alike→eq (x ∷ xs) [] t = absurd t
-alike→eq (x ∷ xs) (y ∷ ys) t =
-    ap₂ (λ (x : ℕ) (xs : List ℕ). x ∷ xs) (eqb→eq x y (first (eqb x y) _ t)) (alike→eq xs ys (second (eqb x y) _ t))
-
-computed-stored : (t : BitAllocTable) → T (allBelow 32 (λ sb. alike (stored t sb) (rowOf16 t sb)))
-unfolding alike rowOf16 ranges
-computed-stored B2a = tt
-computed-stored B2b = tt
-computed-stored B2c = tt
-computed-stored B2d = tt
-computed-stored B1Lsf = tt
-
-stored-past : (t : BitAllocTable) (sb : ℕ) → 32 ≤ sb → stored t sb ≡ replicate 16 0
-stored-past B2a sb h = rw (le-ltb sb 3 (omega arith), le-ltb sb 11 (omega arith), le-ltb sb 23 (omega arith), le-ltb sb 27 (omega arith))
-stored-past B2b sb h = rw (le-ltb sb 3 (omega arith), le-ltb sb 11 (omega arith), le-ltb sb 23 (omega arith), le-ltb sb 30 (omega arith))
-stored-past B2c sb h = rw (le-ltb sb 2 (omega arith), le-ltb sb 8 (omega arith))
-stored-past B2d sb h = rw (le-ltb sb 2 (omega arith), le-ltb sb 12 (omega arith))
-stored-past B1Lsf sb h = rw (le-ltb sb 4 (omega arith), le-ltb sb 11 (omega arith), le-ltb sb 30 (omega arith))
-
-row-past : (t : BitAllocTable) (sb : ℕ) → 32 ≤ sb → replicate 16 0 ≡ rowOf16 t sb
-unfolding rowOf16
-row-past t sb h = rw (no-row t sb (le-trans (sblimit-small t) (le-trans (lit≤ tt) h)))
-
-row-stored : (t : BitAllocTable) (sb : ℕ) → stored t sb ≡ rowOf16 t sb
-row-stored t sb = go (decLt sb 32)
-  where
-    go : Dec (sb < 32) → stored t sb ≡ rowOf16 t sb
-    go (yes h) = alike→eq _ _ (below 32 (λ sb. alike (stored t sb) (rowOf16 t sb)) (computed-stored t) sb h)
-    go (no h) = let l : 32 ≤ sb = omega arith in stored-past t sb l ∙ row-past t sb l
-
-pub row-is : (s t : BitAllocTable) (sb : ℕ) (r : List ℕ) → s ≡ t → r ≡ stored t sb → r ≡ rowOf16 s sb
-row-is s t sb r e q = q ∙ row-stored t sb ∙ ap (λ (t : BitAllocTable). rowOf16 t sb) (sym e)
 
 -- ---- the steps at a place, and the place of steps
 
@@ -362,51 +291,6 @@ module _ (t : BitAllocTable) (sb places : ℕ) (row : List ℕ) (e : row ≡ row
 
     pub three-missed : (getD row place 0 ≡ steps → ⊥) → AllocationIndexIs t sb steps None
     three-missed d = index-missing t sb steps places row e p (λ k h q. d (rw (lands k h q) q))
-
--- ---- nbal by the subbands at which it falls: below the first 4 bits, below the second 3, below sblimit 2
-
-abbrev pub four : BitAllocTable → ℕ
-four B2a = 11
-four B2b = 11
-four B2c = 2
-four B2d = 2
-four B1Lsf = 4
-
-abbrev pub three : BitAllocTable → ℕ
-three B2a = 23
-three B2b = 23
-three B2c = 8
-three B2d = 12
-three B1Lsf = 11
-
-byFalls : BitAllocTable → ℕ → ℕ
-byFalls t sb = widthBy sb (four t) (three t) (sblimitOf t)
-
-computed-falls : (t : BitAllocTable)
-  → T (leb (four t) (sblimitOf t) && (leb (three t) (sblimitOf t) && allBelow (sblimitOf t) (λ sb. eqb (byFalls t sb) (nbalOf t sb))))
-unfolding byFalls nbalOf ranges
-computed-falls B2a = tt
-computed-falls B2b = tt
-computed-falls B2c = tt
-computed-falls B2d = tt
-computed-falls B1Lsf = tt
-
-pub nbal-by-falls : (t : BitAllocTable) (sb : ℕ) → widthBy sb (four t) (three t) (sblimitOf t) ≡ nbalOf t sb
-unfolding byFalls
-nbal-by-falls t sb = go (decLt sb (sblimitOf t))
-  where
-    t₀ : T (leb (three t) (sblimitOf t) && allBelow (sblimitOf t) (λ sb. eqb (byFalls t sb) (nbalOf t sb)))
-    t₀ = second (leb (four t) (sblimitOf t)) _ (computed-falls t)
-    go : Dec (sb < sblimitOf t) → byFalls t sb ≡ nbalOf t sb
-    go (yes h) = eqb→eq _ _ (below (sblimitOf t) (λ sb. eqb (byFalls t sb) (nbalOf t sb)) (second (leb (three t) (sblimitOf t)) _ t₀) sb h)
-    go (no h) =
-        let l : sblimitOf t ≤ sb = omega arith in
-        let a : four t ≤ sb = le-trans (leb→le _ _ (first (leb (four t) (sblimitOf t)) _ (computed-falls t))) l in
-        let b : three t ≤ sb = le-trans (leb→le _ _ (first (leb (three t) (sblimitOf t)) _ t₀)) l in
-        rw (le-ltb sb (four t) a, le-ltb sb (three t) b, le-ltb sb (sblimitOf t) l) (sym (no-field t sb l))
-
-pub nbal-is : (s t : BitAllocTable) (sb r : ℕ) → s ≡ t → WidthIs sb (four t) (three t) (sblimitOf t) r → NbalIs s sb r
-nbal-is s t sb r e p = record { whole = p .whole ∙ nbal-by-falls t sb ∙ ap (λ (t : BitAllocTable). nbalOf t sb) (sym e); small = p .small }
 
 -- ---- the sums of nbal
 

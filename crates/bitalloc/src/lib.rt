@@ -1,9 +1,12 @@
 // The bit allocation tables of Layer II: Tables 3-B.2a to d of ISO/IEC 11172-3, Table B.1 of ISO/IEC 13818-3.
 ghost use mathlib.Core.Path.{_≡_};
-ghost use Prim.Native.Nat.{min, _≤_};
+ghost use Prim.Native.Nat.{_+_, _*_, _≤_, min};
+ghost use Rattle.bitalloc.specs.Kept.{keptRow, sixteen, endsOf, bytesOf, columnOf, RangeIs};
 ghost use Rattle.bitalloc.specs.Tables.{tableNumbered, tableNumber, SblimitIs, PlacesAre, NbalIs, StepsAre, AllocationIndexIs};
 ghost use Rattle.bitalloc.specs.Storage.{rowOf16, FirstOfThreeIs};
 ghost use Rattle.bitalloc.specs.Options.{tableIn};
+
+mod kept_rows;
 
 // A subband's index is below this.
 pub const NUM_SUBBANDS: usize = 32;
@@ -74,13 +77,7 @@ impl BitAllocTable {
     pub fn nbal(self, sb: usize) -> u32
         ensures { λ r. ⌜ NbalIs self sb r ⌝ }
     {
-        match self {
-            BitAllocTable::B2a => table_rows::nbal_by_range(sb, 11, 23, 27),
-            BitAllocTable::B2b => table_rows::nbal_by_range(sb, 11, 23, 30),
-            BitAllocTable::B2c => table_rows::nbal_by_range(sb, 2, 8, 8),
-            BitAllocTable::B2d => table_rows::nbal_by_range(sb, 2, 12, 12),
-            BitAllocTable::B1Lsf => table_rows::nbal_by_range(sb, 4, 11, 30),
-        }
+        kept_rows::nbal(self.range(sb))
     }
 
     // The steps at a place of the subband's row.
@@ -88,9 +85,9 @@ impl BitAllocTable {
         ensures { λ r. ⌜ StepsAre self sb index r ⌝ }
     {
         let at = index as usize;
-        let places = self.places(sb);
-        if at < places {
-            let row = self.row(sb);
+        let range = self.range(sb);
+        if at < kept_rows::places(range) {
+            let row = self.row_in(range);
             OptionU32::Some(row[at])
         } else {
             OptionU32::None
@@ -102,11 +99,12 @@ impl BitAllocTable {
     pub fn allocation_index(self, sb: usize, nb_steps: u32) -> OptionU32
         ensures { λ r. ⌜ AllocationIndexIs self sb «nb_steps» r ⌝ }
     {
-        let places = self.places(sb);
+        let range = self.range(sb);
+        let places = kept_rows::places(range);
         if places == 0 {
             return OptionU32::None;
         }
-        let row = self.row(sb);
+        let row = self.row_in(range);
         let first = first_of_three(places, nb_steps);
         let place = first + ((row[first] < nb_steps) as usize) + ((row[first + 1] < nb_steps) as usize);
         if row[place] == nb_steps { OptionU32::Some(place as u32) } else { OptionU32::None }
@@ -116,21 +114,60 @@ impl BitAllocTable {
     pub fn row(self, sb: usize) -> [u32; 16]
         ensures { λ r. ⌜ r ≡ rowOf16 self sb ⌝ }
     {
-        match self {
-            BitAllocTable::B2a => table_rows::a_or_b(sb, 27),
-            BitAllocTable::B2b => table_rows::a_or_b(sb, 30),
-            BitAllocTable::B2c => table_rows::c_or_d(sb, 8),
-            BitAllocTable::B2d => table_rows::c_or_d(sb, 12),
-            BitAllocTable::B1Lsf => table_rows::lsf(sb, 30),
-        }
+        self.row_in(self.range(sb))
     }
 
     // How many places the subband's row has.
     pub fn places(self, sb: usize) -> usize
         ensures { λ r. ⌜ PlacesAre self sb r ⌝ }
     {
-        let nbal = self.nbal(sb);
-        if nbal == 0 { 0 } else { 1 << nbal }
+        kept_rows::places(self.range(sb))
+    }
+
+    // The range of the table that a subband lies in, 0 to 3, and 4 where the table does not carry the subband: how many of the four ends it has
+    // reached. All four are compared at once, each in a byte: the top bit of 0x80 + sb - end is set where sb is not below the end, and the product adds
+    // the four bits up.
+    fn range(self, sb: usize) -> usize
+        ensures { λ r. ⌜ RangeIs self sb r ⌝ }
+    {
+        let sb_or_32 = smaller(sb, NUM_SUBBANDS) as u64;
+        let compared = sb_or_32 * 0x01010101 + (0x80808080 - (self.ends() as u64));
+        let reached = (compared >> 7) & 0x01010101;
+        (((reached * 0x01010101) >> 24) & 7) as usize
+    }
+
+    // The subbands before which the four ranges end, a byte each, the first in the lowest.
+    fn ends(self) -> u32
+        ensures { λ r. ⌜ r ≡ bytesOf (endsOf self) ⌝ }
+    {
+        match self {
+            BitAllocTable::B2a => 0x1b_17_0b_03,
+            BitAllocTable::B2b => 0x1e_17_0b_03,
+            BitAllocTable::B2c => 0x08_08_02_02,
+            BitAllocTable::B2d => 0x0c_0c_02_02,
+            BitAllocTable::B1Lsf => 0x1e_0b_04_00,
+        }
+    }
+
+    // The row of a range in the table.
+    fn row_in(self, range: usize) -> [u32; 16]
+        requires { ⌜ range ≤ 4 ⌝ }
+        ensures { λ r. ⌜ r ≡ sixteen (keptRow (2 * range + columnOf self)) ⌝ }
+    {
+        kept_rows::row(2 * range + self.column())
+    }
+
+    // Which of the two rows of a range the table has.
+    fn column(self) -> usize
+        ensures { λ r. ⌜ r ≡ columnOf self ⌝ }
+    {
+        match self {
+            BitAllocTable::B2a => 0,
+            BitAllocTable::B2b => 0,
+            BitAllocTable::B2c => 1,
+            BitAllocTable::B2d => 1,
+            BitAllocTable::B1Lsf => 1,
+        }
     }
 }
 

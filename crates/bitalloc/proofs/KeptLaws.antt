@@ -1,0 +1,259 @@
+-- The rows as the code keeps them are those of the printed tables, each once; and a subband's range tells its row, its width and its places.
+use mathlib.Core.Path.{_≡_, refl, sym, ap, ap₂, _∙_, subst}
+use mathlib.Core.Bool.{Bool, true, false, not, cond, _&&_}
+use mathlib.Core.List.{List, [], _∷_, map}
+use mathlib.Core.Option.{some}
+use Prim.Native.Nat.{ℕ, suc, _+_, _-_, _*_, _/_, _^_, _≤_, _<_, min, suc-le-suc}
+use native.Mathlib.Nat.{le-trans, le-suc}
+use native.Mathlib.Decide.{decLt}
+use native.Mathlib.Omega.{arith}
+use borrow.Author.Tests.{le-leb, eq-eqb}
+use lib.Bits.{bitAnd, and-le-r}
+use lib.Dec.{T, leb, ltb, eqb, ltb→lt, leb→le, eqb→eq, lit<, lit≤}
+use lib.ListN.{length, getD, getElem?}
+use Rattle.tables.proofs.Rule.{first, second, allBelow, below, all, all-at, ordered, ordered-at}
+use Rattle.tables.proofs.Search.{past, there-only}
+use Rattle.bitalloc.specs.declared.BitAllocTable.{BitAllocTable}
+use Rattle.bitalloc.specs.declared.BitAllocTable.the-variants.{B2a, B2b, B2c, B2d, B1Lsf}
+use Rattle.bitalloc.specs.Tables.{NbalIs, PlacesAre, ranges, rangeOf, nbalOf, rowOf, sblimitOf}
+use Rattle.bitalloc.specs.Storage.{rowOf16}
+use Rattle.bitalloc.specs.Kept.{kept, keptRow, sixteen, paired, halfOf, endsOf, reached, rangeNumber, bytesOf, columnOf, widths, counts, Subband, holders, KeptOnce, WidthIs, CountIs, RangeIs}
+use Rattle.bitalloc.proofs.RowLaws.{no-row, no-field, sblimit-small}
+
+-- ---- two rows are the same where their places are
+
+alike : List ℕ → List ℕ → Bool
+alike [] [] = true
+alike [] (y ∷ ys) = false
+alike (x ∷ xs) [] = false
+alike (x ∷ xs) (y ∷ ys) = eqb x y && alike xs ys
+
+alike→eq : (xs ys : List ℕ) → T (alike xs ys) → xs ≡ ys
+unfolding alike
+alike→eq [] [] t = refl
+alike→eq [] (y ∷ ys) t = absurd t
+alike→eq (x ∷ xs) [] t = absurd t
+alike→eq (x ∷ xs) (y ∷ ys) t =
+    ap₂ (λ (x : ℕ) (xs : List ℕ). x ∷ xs) (eqb→eq x y (first (eqb x y) _ t)) (alike→eq xs ys (second (eqb x y) _ t))
+
+alike-self : (xs : List ℕ) → alike xs xs ≡ true
+unfolding alike
+alike-self [] = refl
+alike-self (x ∷ xs) = rw (eq-eqb x x refl) (alike-self xs)
+
+-- ---- each row is kept once
+
+differ : List ℕ → List ℕ → Bool
+differ xs ys = not (alike xs ys)
+
+computed-apart : T (ordered differ kept)
+unfolding kept differ alike
+computed-apart = tt
+
+kept-apart : (i j : ℕ) → i < j → j < length kept → keptRow i ≡ keptRow j → ⊥
+unfolding keptRow differ
+kept-apart i j l h e =
+    let d = ordered-at differ kept [] computed-apart i j l h in
+    subst (λ (b : Bool). T (not b)) (alike-self (getD kept j [])) (subst (λ (row : List ℕ). T (differ row (getD kept j []))) e d)
+
+-- ---- the range of a subband tells its row, its width and its places
+
+-- what is proved of a subband, as one test
+fits : BitAllocTable → ℕ → Bool
+fits t sb =
+    eqb (getD widths (rangeNumber t sb) 0) (nbalOf t sb)
+    && (eqb (getD counts (rangeNumber t sb) 0) (length (rowOf t sb))
+    && alike (keptRow (2 * rangeNumber t sb + columnOf t)) (rowOf t sb))
+
+computed-fits : (t : BitAllocTable) → T (allBelow 32 (fits t))
+unfolding fits alike kept keptRow rangeNumber nbalOf rowOf ranges
+computed-fits B2a = tt
+computed-fits B2b = tt
+computed-fits B2c = tt
+computed-fits B2d = tt
+computed-fits B1Lsf = tt
+
+-- no more ends are reached than there are
+reached-few : (sb : ℕ) (es : List ℕ) → reached sb es ≤ length es
+reached-few sb [] = lit≤ tt
+reached-few sb (e ∷ es) = go (leb e sb) (reached-few sb es)
+  where
+    go : (b : Bool) → reached sb es ≤ length es → cond b (suc (reached sb es)) (reached sb es) ≤ suc (length es)
+    go true h = suc-le-suc h
+    go false h = le-trans h (le-suc (length es))
+
+range-small : (t : BitAllocTable) (sb : ℕ) → rangeNumber t sb ≤ 4
+unfolding rangeNumber
+range-small B2a sb = reached-few sb (endsOf B2a)
+range-small B2b sb = reached-few sb (endsOf B2b)
+range-small B2c sb = reached-few sb (endsOf B2c)
+range-small B2d sb = reached-few sb (endsOf B2d)
+range-small B1Lsf sb = reached-few sb (endsOf B1Lsf)
+
+-- from 32 on every end is reached
+reached-all : (sb : ℕ) (es : List ℕ) → T (all (λ e. leb e 32) es) → 32 ≤ sb → reached sb es ≡ length es
+reached-all sb [] t h = refl
+reached-all sb (e ∷ es) t h =
+    rw (le-leb e sb (le-trans (leb→le e 32 (first (leb e 32) _ t)) h)) (ap suc (reached-all sb es (second (leb e 32) _ t) h))
+
+last-range : (t : BitAllocTable) (sb : ℕ) → 32 ≤ sb → rangeNumber t sb ≡ 4
+unfolding rangeNumber
+last-range B2a sb h = reached-all sb (endsOf B2a) tt h
+last-range B2b sb h = reached-all sb (endsOf B2b) tt h
+last-range B2c sb h = reached-all sb (endsOf B2c) tt h
+last-range B2d sb h = reached-all sb (endsOf B2d) tt h
+last-range B1Lsf sb h = reached-all sb (endsOf B1Lsf) tt h
+
+no-kept-row : (t : BitAllocTable) → keptRow (2 * 4 + columnOf t) ≡ []
+unfolding kept keptRow
+no-kept-row B2a = refl
+no-kept-row B2b = refl
+no-kept-row B2c = refl
+no-kept-row B2d = refl
+no-kept-row B1Lsf = refl
+
+-- what a subband's range tells
+pub record Told (t : BitAllocTable) (sb : ℕ) : Type 0 where
+  pub width : getD widths (rangeNumber t sb) 0 ≡ nbalOf t sb
+  pub count : getD counts (rangeNumber t sb) 0 ≡ length (rowOf t sb)
+  pub row : keptRow (2 * rangeNumber t sb + columnOf t) ≡ rowOf t sb
+
+pub told : (t : BitAllocTable) (sb : ℕ) → Told t sb
+unfolding fits
+told t sb = go (decLt sb 32)
+  where
+    width : Bool
+    width = eqb (getD widths (rangeNumber t sb) 0) (nbalOf t sb)
+    count : Bool
+    count = eqb (getD counts (rangeNumber t sb) 0) (length (rowOf t sb))
+    go : Dec (sb < 32) → Told t sb
+    go (yes h) =
+        let both = below 32 (fits t) (computed-fits t) sb h in
+        let rest = second width _ both in
+        record { width = eqb→eq _ _ (first width _ both); count = eqb→eq _ _ (first count _ rest); row = alike→eq _ _ (second count _ rest) }
+    go (no h) =
+        let l : 32 ≤ sb = omega arith in
+        let beyond : sblimitOf t ≤ sb = le-trans (sblimit-small t) (le-trans (lit≤ tt) l) in
+        record {
+          width = rw (last-range t sb l) (sym (no-field t sb beyond));
+          count = rw (last-range t sb l) (sym (ap length (no-row t sb beyond)));
+          row = rw (last-range t sb l) (no-kept-row t ∙ sym (no-row t sb beyond))
+        }
+
+-- ---- the promise
+
+computed-held : map (λ s. rowOf (s .table) (s .number)) holders ≡ kept
+unfolding kept rowOf ranges
+computed-held = refl
+
+isCarried : Subband → Bool
+isCarried s = ltb (s .number) (sblimitOf (s .table))
+
+computed-carried : T (all isCarried holders)
+unfolding isCarried
+computed-carried = tt
+
+holder-carried : (n : ℕ) (s : Subband) → getElem? holders n ≡ some s → s .number < sblimitOf (s .table)
+unfolding isCarried
+holder-carried n s e =
+    let d : Subband = record { table = B2a; number = 0 } in
+    let is = there-only holders n s d e .1 in
+    ltb→lt _ _ (subst (λ (s : Subband). T (isCarried s)) is (all-at isCarried holders d tt computed-carried n))
+
+computed-few : (t : BitAllocTable) → T (allBelow (sblimitOf t) (λ sb. ltb (2 * rangeNumber t sb + columnOf t) (length kept)))
+unfolding rangeNumber kept
+computed-few B2a = tt
+computed-few B2b = tt
+computed-few B2c = tt
+computed-few B2d = tt
+computed-few B1Lsf = tt
+
+pub kept-once : KeptOnce
+kept-once = record {
+  apart = kept-apart;
+  held = computed-held;
+  carried = holder-carried;
+  every = λ t sb h.
+      (
+        2 * rangeNumber t sb + columnOf t,
+        (
+          ltb→lt _ _ (below (sblimitOf t) (λ sb. ltb (2 * rangeNumber t sb + columnOf t) (length kept)) (computed-few t) sb h),
+          told t sb .row
+        )
+      )
+}
+
+-- ---- the four ends compared at once
+
+-- what the code makes of a subband and the bytes of the ends
+abbrev pub compared : ℕ → ℕ → ℕ
+compared sb ends = bitAnd (bitAnd ((sb * 16843009 + (2155905152 - ends)) / 2 ^ 7) 16843009 * 16843009 / 2 ^ 24) 7
+
+computed-compared : (t : BitAllocTable) → T (allBelow 33 (λ sb. eqb (compared sb (bytesOf (endsOf t))) (rangeNumber t sb)))
+unfolding rangeNumber
+computed-compared B2a = tt
+computed-compared B2b = tt
+computed-compared B2c = tt
+computed-compared B2d = tt
+computed-compared B1Lsf = tt
+
+compared-is : (t : BitAllocTable) (sb : ℕ) → compared (min sb 32) (bytesOf (endsOf t)) ≡ rangeNumber t sb
+compared-is t sb = go (decLt sb 32)
+  where
+    upTo : (n : ℕ) → n < 33 → compared n (bytesOf (endsOf t)) ≡ rangeNumber t n
+    upTo n h = eqb→eq _ _ (below 33 (λ sb. eqb (compared sb (bytesOf (endsOf t))) (rangeNumber t sb)) (computed-compared t) n h)
+    go : Dec (sb < 32) → compared (min sb 32) (bytesOf (endsOf t)) ≡ rangeNumber t sb
+    go (yes h) = let e : min sb 32 ≡ sb = omega arith in rw e (upTo sb (omega arith))
+    go (no h) =
+        let e : min sb 32 ≡ 32 = omega arith in
+        rw e (upTo 32 (lit< tt) ∙ last-range t 32 (lit≤ tt) ∙ sym (last-range t sb (omega arith)))
+
+pub range-is : (t : BitAllocTable) (sb at ends : ℕ) → at ≡ min sb 32 → ends ≡ bytesOf (endsOf t) → RangeIs t sb (compared at ends)
+range-is t sb at ends a e =
+    let is = ap₂ compared a e ∙ compared-is t sb in
+    record { whole = is; most = subst (λ (n : ℕ). n ≤ 4) (sym is) (range-small t sb) }
+
+pub ends-small : (t : BitAllocTable) → bytesOf (endsOf t) ≤ 2155905152
+ends-small B2a = lit≤ tt
+ends-small B2b = lit≤ tt
+ends-small B2c = lit≤ tt
+ends-small B2d = lit≤ tt
+ends-small B1Lsf = lit≤ tt
+
+pub sum-fits : (x : ℕ) → bitAnd x 16843009 * 16843009 < 2 ^ 64
+sum-fits x = omega (arith, and-le-r x 16843009)
+
+pub column-small : (t : BitAllocTable) → columnOf t ≤ 1
+column-small B2a = lit≤ tt
+column-small B2b = lit≤ tt
+column-small B2c = lit≤ tt
+column-small B2d = lit≤ tt
+column-small B1Lsf = lit≤ tt
+
+-- ---- a row of two places to a word
+
+halves : List ℕ → Bool
+halves row = allBelow 16 (λ p. eqb (halfOf (getD (paired row) (p / 2) 0) p) (getD row p 0))
+
+computed-halves : T (all halves kept)
+unfolding halves kept
+computed-halves = tt
+
+-- the half that the code takes has the place's steps
+pub half-is : (number p : ℕ) → p < 16 → halfOf (getD (paired (keptRow number)) (p / 2) 0) p ≡ getD (keptRow number) p 0
+unfolding halves keptRow
+half-is number p h =
+    let row = getD kept number [] in
+    eqb→eq _ _ (below 16 (λ p. eqb (halfOf (getD (paired row) (p / 2) 0) p) (getD row p 0)) (all-at halves kept [] tt computed-halves number) p h)
+
+-- ---- the functions of the table
+
+pub nbal-is : (t : BitAllocTable) (sb range r : ℕ) → range ≡ rangeNumber t sb → WidthIs range r → NbalIs t sb r
+nbal-is t sb range r e p = record { whole = p .whole ∙ rw e (told t sb .width); small = p .small }
+
+pub places-are : (t : BitAllocTable) (sb range r : ℕ) → range ≡ rangeNumber t sb → CountIs range r → PlacesAre t sb r
+places-are t sb range r e p = record { whole = p .whole ∙ rw e (told t sb .count); most = p .most }
+
+pub row-is : (t : BitAllocTable) (sb range : ℕ) (r : List ℕ) → range ≡ rangeNumber t sb → r ≡ sixteen (keptRow (2 * range + columnOf t)) → r ≡ rowOf16 t sb
+unfolding rowOf16
+row-is t sb range r e q = q ∙ ap (λ (n : ℕ). sixteen (keptRow (2 * n + columnOf t))) e ∙ ap sixteen (told t sb .row)

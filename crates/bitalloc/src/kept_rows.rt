@@ -1,0 +1,70 @@
+// The rows of the five allocation tables, each distinct row once, and what the subbands of a range have in common.
+//
+// The subbands of a table lie in up to four ranges, by rising subband: two whose allocation fields have 4 bits, one with 3 and one with 2.
+// Two rows are kept of each range: first that of Tables 3-B.2a and 3-B.2b, then that of the other three tables.
+ghost use mathlib.Core.Path.{_≡_};
+ghost use Rattle.bitalloc.specs.Kept.{keptRow, paired, sixteen, halfOf, WidthIs, CountIs};
+
+// The steps of a kept row, two places to a word, the even place in the lower half; zeros behind the last place, and where no row is kept.
+fn words(number: usize) -> [u64; 8]
+    ensures { λ r. ⌜ r ≡ paired (keptRow number) ⌝ }
+{
+    match number {
+        0 => [0x3_00000000, 0xf_00000007, 0x3f_0000001f, 0xff_0000007f, 0x3ff_000001ff, 0xfff_000007ff, 0x3fff_00001fff, 0xffff_00007fff],
+        1 => [0x3_00000000, 0x9_00000005, 0x1f_0000000f, 0x7f_0000003f, 0x1ff_000000ff, 0x7ff_000003ff, 0x1fff_00000fff, 0x7fff_00003fff],
+        2 => [0x3_00000000, 0x7_00000005, 0xf_00000009, 0x3f_0000001f, 0xff_0000007f, 0x3ff_000001ff, 0xfff_000007ff, 0xffff_00001fff],
+        3 => [0x3_00000000, 0x7_00000005, 0xf_00000009, 0x3f_0000001f, 0xff_0000007f, 0x3ff_000001ff, 0xfff_000007ff, 0x3fff_00001fff],
+        4 => [0x3_00000000, 0x7_00000005, 0xf_00000009, 0xffff_0000001f, 0, 0, 0, 0],
+        5 => [0x3_00000000, 0x9_00000005, 0x1f_0000000f, 0x7f_0000003f, 0, 0, 0, 0],
+        6 => [0x3_00000000, 0xffff_00000005, 0, 0, 0, 0, 0, 0],
+        7 => [0x3_00000000, 0x9_00000005, 0, 0, 0, 0, 0, 0],
+        _ => [0, 0, 0, 0, 0, 0, 0, 0],
+    }
+}
+
+// A kept row: the steps at its places, and zeros behind them.
+pub fn row(number: usize) -> [u32; 16]
+    ensures { λ r. ⌜ r ≡ sixteen (keptRow number) ⌝ }
+{
+    let words = words(number);
+    let mut row = [0u32; 16];
+    let mut place: usize = 0;
+    while place < 16 {
+        row[place] = half(words[place / 2], place);
+        place = place + 1;
+    }
+    row
+}
+
+// The half of a word that has a place's steps.
+fn half(word: u64, place: usize) -> u32
+    ensures { λ r. ⌜ r ≡ halfOf word place ⌝ }
+{
+    if place % 2 == 0 { (word % 0x1_0000_0000) as u32 } else { (word / 0x1_0000_0000) as u32 }
+}
+
+// The bits of the allocation fields in a range; 0 past the last.
+pub fn nbal(range: usize) -> u32
+    ensures { λ r. ⌜ WidthIs range r ⌝ }
+{
+    match range {
+        0 => 4,
+        1 => 4,
+        2 => 3,
+        3 => 2,
+        _ => 0,
+    }
+}
+
+// How many places the rows of a range have; none past the last.
+pub fn places(range: usize) -> usize
+    ensures { λ r. ⌜ CountIs range r ⌝ }
+{
+    match range {
+        0 => 16,
+        1 => 16,
+        2 => 8,
+        3 => 4,
+        _ => 0,
+    }
+}
