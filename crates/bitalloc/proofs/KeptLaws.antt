@@ -10,14 +10,14 @@ use native.Mathlib.Omega.{arith}
 use borrow.Author.Tests.{le-leb, eq-eqb}
 use lib.Bits.{bitAnd, and-le-r}
 use lib.Dec.{T, leb, ltb, eqb, ltb→lt, leb→le, eqb→eq, lit<, lit≤}
-use lib.ListN.{length, getD, getElem?}
+use lib.ListN.{length, getD, getElem?, List·getD-eq-default}
 use Rattle.tables.proofs.Rule.{first, second, allBelow, below, all, all-at, ordered, ordered-at}
-use Rattle.tables.proofs.Search.{past, there-only}
+use Rattle.tables.proofs.Search.{there-only}
 use Rattle.bitalloc.specs.declared.BitAllocTable.{BitAllocTable}
 use Rattle.bitalloc.specs.declared.BitAllocTable.the-variants.{B2a, B2b, B2c, B2d, B1Lsf}
-use Rattle.bitalloc.specs.Tables.{NbalIs, PlacesAre, ranges, rangeOf, nbalOf, rowOf, sblimitOf}
-use Rattle.bitalloc.specs.Storage.{rowOf16}
-use Rattle.bitalloc.specs.Kept.{kept, keptRow, sixteen, paired, halfOf, endsOf, reached, rangeNumber, bytesOf, columnOf, widths, counts, Subband, holders, KeptOnce, WidthIs, CountIs, RangeIs}
+use Rattle.bitalloc.specs.Tables.{NbalIs, PlacesAre, ranges, nbalOf, rowOf, sblimitOf}
+use Rattle.bitalloc.specs.Storage.{rowOf16, sixteen}
+use Rattle.bitalloc.specs.Kept.{kept, keptRow, inWords, halfOf, endsOf, reached, rangeNumber, rowNumber, wordOf, columnOf, nbals, Subband, owners, KeptOnce, NbalInRange, PlacesInRange, RangeIs}
 use Rattle.bitalloc.proofs.RowLaws.{no-row, no-field, sblimit-small}
 
 -- ---- two rows are the same where their places are
@@ -61,12 +61,12 @@ kept-apart i j l h e =
 -- what is proved of a subband, as one test
 fits : BitAllocTable → ℕ → Bool
 fits t sb =
-    eqb (getD widths (rangeNumber t sb) 0) (nbalOf t sb)
-    && (eqb (getD counts (rangeNumber t sb) 0) (length (rowOf t sb))
-    && alike (keptRow (2 * rangeNumber t sb + columnOf t)) (rowOf t sb))
+    eqb (getD nbals (rangeNumber t sb) 0) (nbalOf t sb)
+    && (eqb (length (keptRow (2 * rangeNumber t sb))) (length (rowOf t sb))
+    && alike (keptRow (rowNumber t sb)) (rowOf t sb))
 
 computed-fits : (t : BitAllocTable) → T (allBelow 32 (fits t))
-unfolding fits alike kept keptRow rangeNumber nbalOf rowOf ranges
+unfolding fits alike kept keptRow rowNumber nbalOf rowOf ranges
 computed-fits B2a = tt
 computed-fits B2b = tt
 computed-fits B2c = tt
@@ -104,28 +104,29 @@ last-range B2c sb h = reached-all sb (endsOf B2c) tt h
 last-range B2d sb h = reached-all sb (endsOf B2d) tt h
 last-range B1Lsf sb h = reached-all sb (endsOf B1Lsf) tt h
 
-no-kept-row : (t : BitAllocTable) → keptRow (2 * 4 + columnOf t) ≡ []
+-- behind the last row there is none
+pub none-kept : (n : ℕ) → 8 ≤ n → keptRow n ≡ []
 unfolding kept keptRow
-no-kept-row B2a = refl
-no-kept-row B2b = refl
-no-kept-row B2c = refl
-no-kept-row B2d = refl
-no-kept-row B1Lsf = refl
+none-kept n h = List·getD-eq-default kept [] {n = n} h
+
+no-number : (t : BitAllocTable) (sb : ℕ) → 8 ≤ 2 * rangeNumber t sb → 8 ≤ rowNumber t sb
+unfolding rowNumber
+no-number t sb h = omega arith
 
 -- what a subband's range tells
 pub record Told (t : BitAllocTable) (sb : ℕ) : Type 0 where
-  pub width : getD widths (rangeNumber t sb) 0 ≡ nbalOf t sb
-  pub count : getD counts (rangeNumber t sb) 0 ≡ length (rowOf t sb)
-  pub row : keptRow (2 * rangeNumber t sb + columnOf t) ≡ rowOf t sb
+  pub width : getD nbals (rangeNumber t sb) 0 ≡ nbalOf t sb
+  pub count : length (keptRow (2 * rangeNumber t sb)) ≡ length (rowOf t sb)
+  pub row : keptRow (rowNumber t sb) ≡ rowOf t sb
 
 pub told : (t : BitAllocTable) (sb : ℕ) → Told t sb
 unfolding fits
 told t sb = go (decLt sb 32)
   where
     width : Bool
-    width = eqb (getD widths (rangeNumber t sb) 0) (nbalOf t sb)
+    width = eqb (getD nbals (rangeNumber t sb) 0) (nbalOf t sb)
     count : Bool
-    count = eqb (getD counts (rangeNumber t sb) 0) (length (rowOf t sb))
+    count = eqb (length (keptRow (2 * rangeNumber t sb))) (length (rowOf t sb))
     go : Dec (sb < 32) → Told t sb
     go (yes h) =
         let both = below 32 (fits t) (computed-fits t) sb h in
@@ -134,53 +135,40 @@ told t sb = go (decLt sb 32)
     go (no h) =
         let l : 32 ≤ sb = omega arith in
         let beyond : sblimitOf t ≤ sb = le-trans (sblimit-small t) (le-trans (lit≤ tt) l) in
+        let last = last-range t sb l in
+        let eight : 8 ≤ 2 * rangeNumber t sb = omega arith in
         record {
-          width = rw (last-range t sb l) (sym (no-field t sb beyond));
-          count = rw (last-range t sb l) (sym (ap length (no-row t sb beyond)));
-          row = rw (last-range t sb l) (no-kept-row t ∙ sym (no-row t sb beyond))
+          width = rw last (sym (no-field t sb beyond));
+          count = ap length (none-kept (2 * rangeNumber t sb) eight ∙ sym (no-row t sb beyond));
+          row = none-kept (rowNumber t sb) (no-number t sb eight) ∙ sym (no-row t sb beyond)
         }
 
 -- ---- the promise
 
-computed-held : map (λ s. rowOf (s .table) (s .number)) holders ≡ kept
+computed-owned : map (λ s. rowOf (s .table) (s .number)) owners ≡ kept
 unfolding kept rowOf ranges
-computed-held = refl
+computed-owned = refl
 
 isCarried : Subband → Bool
 isCarried s = ltb (s .number) (sblimitOf (s .table))
 
-computed-carried : T (all isCarried holders)
+computed-carried : T (all isCarried owners)
 unfolding isCarried
 computed-carried = tt
 
-holder-carried : (n : ℕ) (s : Subband) → getElem? holders n ≡ some s → s .number < sblimitOf (s .table)
+owner-carried : (n : ℕ) (s : Subband) → getElem? owners n ≡ some s → s .number < sblimitOf (s .table)
 unfolding isCarried
-holder-carried n s e =
+owner-carried n s e =
     let d : Subband = record { table = B2a; number = 0 } in
-    let is = there-only holders n s d e .1 in
-    ltb→lt _ _ (subst (λ (s : Subband). T (isCarried s)) is (all-at isCarried holders d tt computed-carried n))
-
-computed-few : (t : BitAllocTable) → T (allBelow (sblimitOf t) (λ sb. ltb (2 * rangeNumber t sb + columnOf t) (length kept)))
-unfolding rangeNumber kept
-computed-few B2a = tt
-computed-few B2b = tt
-computed-few B2c = tt
-computed-few B2d = tt
-computed-few B1Lsf = tt
+    let is = there-only owners n s d e .1 in
+    ltb→lt _ _ (subst (λ (s : Subband). T (isCarried s)) is (all-at isCarried owners d tt computed-carried n))
 
 pub kept-once : KeptOnce
 kept-once = record {
   apart = kept-apart;
-  held = computed-held;
-  carried = holder-carried;
-  every = λ t sb h.
-      (
-        2 * rangeNumber t sb + columnOf t,
-        (
-          ltb→lt _ _ (below (sblimitOf t) (λ sb. ltb (2 * rangeNumber t sb + columnOf t) (length kept)) (computed-few t) sb h),
-          told t sb .row
-        )
-      )
+  owned = computed-owned;
+  carried = owner-carried;
+  found = λ t sb. told t sb .row
 }
 
 -- ---- the four ends compared at once
@@ -189,7 +177,7 @@ kept-once = record {
 abbrev pub compared : ℕ → ℕ → ℕ
 compared sb ends = bitAnd (bitAnd ((sb * 16843009 + (2155905152 - ends)) / 2 ^ 7) 16843009 * 16843009 / 2 ^ 24) 7
 
-computed-compared : (t : BitAllocTable) → T (allBelow 33 (λ sb. eqb (compared sb (bytesOf (endsOf t))) (rangeNumber t sb)))
+computed-compared : (t : BitAllocTable) → T (allBelow 33 (λ sb. eqb (compared sb (wordOf (endsOf t))) (rangeNumber t sb)))
 unfolding rangeNumber
 computed-compared B2a = tt
 computed-compared B2b = tt
@@ -197,23 +185,23 @@ computed-compared B2c = tt
 computed-compared B2d = tt
 computed-compared B1Lsf = tt
 
-compared-is : (t : BitAllocTable) (sb : ℕ) → compared (min sb 32) (bytesOf (endsOf t)) ≡ rangeNumber t sb
+compared-is : (t : BitAllocTable) (sb : ℕ) → compared (min sb 32) (wordOf (endsOf t)) ≡ rangeNumber t sb
 compared-is t sb = go (decLt sb 32)
   where
-    upTo : (n : ℕ) → n < 33 → compared n (bytesOf (endsOf t)) ≡ rangeNumber t n
-    upTo n h = eqb→eq _ _ (below 33 (λ sb. eqb (compared sb (bytesOf (endsOf t))) (rangeNumber t sb)) (computed-compared t) n h)
-    go : Dec (sb < 32) → compared (min sb 32) (bytesOf (endsOf t)) ≡ rangeNumber t sb
+    upTo : (n : ℕ) → n < 33 → compared n (wordOf (endsOf t)) ≡ rangeNumber t n
+    upTo n h = eqb→eq _ _ (below 33 (λ sb. eqb (compared sb (wordOf (endsOf t))) (rangeNumber t sb)) (computed-compared t) n h)
+    go : Dec (sb < 32) → compared (min sb 32) (wordOf (endsOf t)) ≡ rangeNumber t sb
     go (yes h) = let e : min sb 32 ≡ sb = omega arith in rw e (upTo sb (omega arith))
     go (no h) =
         let e : min sb 32 ≡ 32 = omega arith in
         rw e (upTo 32 (lit< tt) ∙ last-range t 32 (lit≤ tt) ∙ sym (last-range t sb (omega arith)))
 
-pub range-is : (t : BitAllocTable) (sb at ends : ℕ) → at ≡ min sb 32 → ends ≡ bytesOf (endsOf t) → RangeIs t sb (compared at ends)
+pub range-is : (t : BitAllocTable) (sb at ends : ℕ) → at ≡ min sb 32 → ends ≡ wordOf (endsOf t) → RangeIs t sb (compared at ends)
 range-is t sb at ends a e =
     let is = ap₂ compared a e ∙ compared-is t sb in
     record { whole = is; most = subst (λ (n : ℕ). n ≤ 4) (sym is) (range-small t sb) }
 
-pub ends-small : (t : BitAllocTable) → bytesOf (endsOf t) ≤ 2155905152
+pub ends-small : (t : BitAllocTable) → wordOf (endsOf t) ≤ 2155905152
 ends-small B2a = lit≤ tt
 ends-small B2b = lit≤ tt
 ends-small B2c = lit≤ tt
@@ -233,27 +221,27 @@ column-small B1Lsf = lit≤ tt
 -- ---- a row of two places to a word
 
 halves : List ℕ → Bool
-halves row = allBelow 16 (λ p. eqb (halfOf (getD (paired row) (p / 2) 0) p) (getD row p 0))
+halves row = allBelow 16 (λ p. eqb (halfOf (getD (inWords row) (p / 2) 0) p) (getD row p 0))
 
 computed-halves : T (all halves kept)
 unfolding halves kept
 computed-halves = tt
 
 -- the half that the code takes has the place's steps
-pub half-is : (number p : ℕ) → p < 16 → halfOf (getD (paired (keptRow number)) (p / 2) 0) p ≡ getD (keptRow number) p 0
+pub half-is : (number p : ℕ) → p < 16 → halfOf (getD (inWords (keptRow number)) (p / 2) 0) p ≡ getD (keptRow number) p 0
 unfolding halves keptRow
 half-is number p h =
     let row = getD kept number [] in
-    eqb→eq _ _ (below 16 (λ p. eqb (halfOf (getD (paired row) (p / 2) 0) p) (getD row p 0)) (all-at halves kept [] tt computed-halves number) p h)
+    eqb→eq _ _ (below 16 (λ p. eqb (halfOf (getD (inWords row) (p / 2) 0) p) (getD row p 0)) (all-at halves kept [] tt computed-halves number) p h)
 
 -- ---- the functions of the table
 
-pub nbal-is : (t : BitAllocTable) (sb range r : ℕ) → range ≡ rangeNumber t sb → WidthIs range r → NbalIs t sb r
+pub nbal-is : (t : BitAllocTable) (sb range r : ℕ) → range ≡ rangeNumber t sb → NbalInRange range r → NbalIs t sb r
 nbal-is t sb range r e p = record { whole = p .whole ∙ rw e (told t sb .width); small = p .small }
 
-pub places-are : (t : BitAllocTable) (sb range r : ℕ) → range ≡ rangeNumber t sb → CountIs range r → PlacesAre t sb r
+pub places-are : (t : BitAllocTable) (sb range r : ℕ) → range ≡ rangeNumber t sb → PlacesInRange range r → PlacesAre t sb r
 places-are t sb range r e p = record { whole = p .whole ∙ rw e (told t sb .count); most = p .most }
 
 pub row-is : (t : BitAllocTable) (sb range : ℕ) (r : List ℕ) → range ≡ rangeNumber t sb → r ≡ sixteen (keptRow (2 * range + columnOf t)) → r ≡ rowOf16 t sb
-unfolding rowOf16
+unfolding rowOf16 rowNumber
 row-is t sb range r e q = q ∙ ap (λ (n : ℕ). sixteen (keptRow (2 * n + columnOf t))) e ∙ ap sixteen (told t sb .row)

@@ -1,19 +1,19 @@
 -- The rule of the rows, shown a single time over table and subband; the sums of nbal; and that the place of a row's steps and the steps at
 -- a row's place are each other's inverse.
 use mathlib.Core.Path.{_≡_, refl, sym, ap, ap₂, _∙_, subst}
-use mathlib.Core.Bool.{Bool, true, false, cond, _&&_, and-false}
-use mathlib.Core.List.{List, [], _∷_}
+use mathlib.Core.Bool.{Bool, true, false, _&&_, and-false}
+use mathlib.Core.List.{List, []}
 use mathlib.Core.Option.{none, some, Option·none-ne-some, Option·some-injective}
-use Prim.Native.Nat.{ℕ, _+_, _-_, _*_, _%_, _^_, _≤_, _<_}
+use Prim.Native.Nat.{ℕ, _+_, _-_, _^_, _≤_, _<_}
 use mir.Val.{boolByte}
-use native.Mathlib.Nat.{lt-of-lt-of-le, lt-of-le-of-lt, lt-trans, le-trans, not-suc-le-zero, one-mul, mod-eq-of-lt}
+use native.Mathlib.Nat.{lt-of-lt-of-le, lt-trans, not-suc-le-zero}
 use native.Mathlib.Decide.{decLt}
 use native.Mathlib.Omega.{arith}
 use borrow.Author.Tests.{lt-ltb, le-ltb, lt-leb, eq-eqb, ne-eqb, eqb-true}
 use lib.Pow.{pow-mono}
 use lib.Dec.{T, leb, ltb, eqb, ltb→lt, leb→le, eqb→eq, lit<, lit≤}
 use lib.Count.{leadingZeros}
-use lib.ListN.{length, getD, replicate}
+use lib.ListN.{length, getD}
 use Rattle.tables.proofs.Listed.{tabulated}
 use Rattle.bitalloc.specs.Storage.{rowOf16, firstOfThree}
 use Rattle.tables.specs.Search.{entryAt}
@@ -24,7 +24,7 @@ use Rattle.bitalloc.specs.declared.BitAllocTable.{BitAllocTable}
 use Rattle.bitalloc.specs.declared.BitAllocTable.the-variants.{B2a, B2b, B2c, B2d, B1Lsf}
 use Rattle.bitalloc.specs.declared.OptionU32.the-variants.{Some, None}
 use Rattle.bitalloc.specs.Options.{numberIn}
-use Rattle.bitalloc.specs.Tables.{Range, RowRule, NbalIs, StepsAre, AllocationIndexIs, ranges, rangeOf, holds, widthIn, rowIn, nbalOf, rowOf, sblimitOf, nbalSum, stepsAt, indexOf}
+use Rattle.bitalloc.specs.Tables.{Range, RowRule, StepsAre, AllocationIndexIs, ranges, rangeOf, holds, widthIn, rowIn, nbalOf, rowOf, sblimitOf, nbalSum, stepsAt, indexOf}
 
 -- ---- the rule
 

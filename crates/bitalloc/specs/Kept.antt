@@ -1,5 +1,6 @@
 -- How the code keeps the rows of the tables: each distinct row once, found by the range that a subband lies in.
--- For the contracts of functions that only this crate calls: what a caller has to believe is the printed tables, and that these are kept so is proved.
+-- Callers need none of this: the public contracts speak of the tables as printed. `KeptOnce` says what is proved of the kept rows, and the rest
+-- serves private functions' contracts.
 use Prim.Native.Nat.{ℕ, suc, _+_, _*_, _/_, _%_, _^_, _≤_, _<_}
 use mathlib.Core.Path.{_≡_}
 use mathlib.Core.Bool.{cond}
@@ -14,7 +15,7 @@ use Rattle.bitalloc.specs.Tables.{rowOf, sblimitOf}
 
 -- ---- the rows
 
--- the rows that are kept: the steps at each place
+-- The rows that are kept: the steps at each place. Two to a range, first that of Tables 3-B.2a and b, then that of the other tables.
 unfoldable pub kept : List (List ℕ)
 kept =
     (0 ∷ 3 ∷ 7 ∷ 15 ∷ 31 ∷ 63 ∷ 127 ∷ 255 ∷ 511 ∷ 1023 ∷ 2047 ∷ 4095 ∷ 8191 ∷ 16383 ∷ 32767 ∷ 65535 ∷ [])
@@ -27,26 +28,29 @@ kept =
     ∷ (0 ∷ 3 ∷ 5 ∷ 9 ∷ [])
     ∷ []
 
--- the row of a number; no place where no row has it
+-- the kept row of a number, counted from 0; behind the last there is no place
 unfoldable pub keptRow : ℕ → List ℕ
 unfolding kept
 keptRow number = getD kept number []
 
--- sixteen numbers: the steps at a row's places, and zeros behind them
-abbrev pub sixteen : List ℕ → List ℕ
-sixteen row = tabulate 16 (λ p. getD row p 0)
+-- as the code has a row: two places to a word of 64 bits, the even one in the lower half
+abbrev pub inWords : List ℕ → List ℕ
+inWords row = tabulate 8 (λ i. getD row (2 * i) 0 + getD row (2 * i + 1) 0 * 2 ^ 32)
 
--- the same two to a word, the even place in the lower half
-abbrev pub paired : List ℕ → List ℕ
-paired row = tabulate 8 (λ i. getD row (2 * i) 0 + getD row (2 * i + 1) 0 * 2 ^ 32)
-
--- the half of a word that has a place's steps
+-- the steps at a place, from the word that has them
 abbrev pub halfOf : ℕ → ℕ → ℕ
 halfOf word place = cond (eqb (place % 2) 0) (word % 2 ^ 32) (word / 2 ^ 32)
 
 -- ---- the ranges
 
--- The subband before which each of a table's four ranges ends. A range that a table does not print is empty: it ends where the one before it does.
+-- Each table is cut into four ranges of subbands, 0 to 3 by rising subband, whose fields have 4, 4, 3 and 2 bits. A table that prints fewer has
+-- empty ones.
+
+-- the bits of the allocation fields in each range
+abbrev pub nbals : List ℕ
+nbals = 4 ∷ 4 ∷ 3 ∷ 2 ∷ []
+
+-- the first subband behind each range; an empty range ends where it begins
 abbrev pub endsOf : BitAllocTable → List ℕ
 endsOf B2a = 3 ∷ 11 ∷ 23 ∷ 27 ∷ []
 endsOf B2b = 3 ∷ 11 ∷ 23 ∷ 30 ∷ []
@@ -54,21 +58,21 @@ endsOf B2c = 2 ∷ 2 ∷ 8 ∷ 8 ∷ []
 endsOf B2d = 2 ∷ 2 ∷ 12 ∷ 12 ∷ []
 endsOf B1Lsf = 0 ∷ 4 ∷ 11 ∷ 30 ∷ []
 
--- how many of the ends a subband has reached
+-- as the code has the ends: a byte each of a word of 32 bits, the first in the lowest
+abbrev pub wordOf : List ℕ → ℕ
+wordOf [] = 0
+wordOf (e ∷ es) = e + 256 * wordOf es
+
+-- how many of the ends are at or below a subband
 abbrev pub reached : ℕ → List ℕ → ℕ
 reached sb [] = 0
 reached sb (e ∷ es) = cond (leb e sb) (suc (reached sb es)) (reached sb es)
 
--- the range of a subband, 0 to 3, and 4 where the table does not carry it
+-- the range that a subband lies in, which as many ends come before; 4 where the table does not carry the subband
 unfoldable pub rangeNumber : BitAllocTable → ℕ → ℕ
 rangeNumber t sb = reached sb (endsOf t)
 
--- the four ends as the bytes of a word, the first in the lowest
-abbrev pub bytesOf : List ℕ → ℕ
-bytesOf [] = 0
-bytesOf (e ∷ es) = e + 256 * bytesOf es
-
--- which of the two rows of a range the table has
+-- which of a range's two rows the table has
 abbrev pub columnOf : BitAllocTable → ℕ
 columnOf B2a = 0
 columnOf B2b = 0
@@ -76,16 +80,14 @@ columnOf B2c = 1
 columnOf B2d = 1
 columnOf B1Lsf = 1
 
--- of each range the bits of its fields, and how many places its rows have
-abbrev pub widths : List ℕ
-widths = 4 ∷ 4 ∷ 3 ∷ 2 ∷ []
+-- the number of a subband's row; 8 or 9, of which no row is kept, where the table does not carry the subband
+unfoldable pub rowNumber : BitAllocTable → ℕ → ℕ
+unfolding rangeNumber
+rowNumber t sb = 2 * rangeNumber t sb + columnOf t
 
-abbrev pub counts : List ℕ
-counts = 16 ∷ 16 ∷ 8 ∷ 4 ∷ []
+-- ---- what is proved of the kept rows
 
--- ---- what is proved of the rows that are kept
-
--- a subband by its table and its number
+-- a subband of a table
 pub record Subband : Type 0 where
   pub table : BitAllocTable
   pub number : ℕ
@@ -93,29 +95,30 @@ pub record Subband : Type 0 where
 abbrev subband : BitAllocTable → ℕ → Subband
 subband table number = record { table = table; number = number }
 
--- for each kept row a subband that has it
-abbrev pub holders : List Subband
-holders =
+-- for each kept row, in their order, a subband that has it
+abbrev pub owners : List Subband
+owners =
     subband B2a 0 ∷ subband B2c 0 ∷ subband B2a 3 ∷ subband B1Lsf 0 ∷ subband B2a 11 ∷ subband B2c 2 ∷ subband B2a 23 ∷ subband B1Lsf 11 ∷ []
 
--- The kept rows are the rows of the tables, each once: no two hold the same places, the subbands named above have them and are carried, and
--- every subband that is carried has one of them.
+-- The kept rows are the rows of the tables, each once: no two hold the same places; each is the row of the subband named above, which its table
+-- carries; and the row of every subband is the kept row of its number.
 pub record KeptOnce : Type 0 where
   pub apart : (i j : ℕ) → i < j → j < length kept → keptRow i ≡ keptRow j → ⊥
-  pub held : map (λ s. rowOf (s .table) (s .number)) holders ≡ kept
-  pub carried : (n : ℕ) (s : Subband) → getElem? holders n ≡ some s → s .number < sblimitOf (s .table)
-  pub every : (t : BitAllocTable) (sb : ℕ) → sb < sblimitOf t → (n : ℕ) × ((n < length kept) × (keptRow n ≡ rowOf t sb))
+  pub owned : map (λ s. rowOf (s .table) (s .number)) owners ≡ kept
+  pub carried : (n : ℕ) (s : Subband) → getElem? owners n ≡ some s → s .number < sblimitOf (s .table)
+  pub found : (t : BitAllocTable) (sb : ℕ) → keptRow (rowNumber t sb) ≡ rowOf t sb
 
 -- ---- what the private functions promise
-
-pub record WidthIs (range r : ℕ) : Type 0 where
-  pub whole : r ≡ getD widths range 0
-  pub small : r ≤ 4
-
-pub record CountIs (range r : ℕ) : Type 0 where
-  pub whole : r ≡ getD counts range 0
-  pub most : r ≤ 16
 
 pub record RangeIs (t : BitAllocTable) (sb r : ℕ) : Type 0 where
   pub whole : r ≡ rangeNumber t sb
   pub most : r ≤ 4
+
+pub record NbalInRange (range r : ℕ) : Type 0 where
+  pub whole : r ≡ getD nbals range 0
+  pub small : r ≤ 4
+
+-- a range's two rows have as many places
+pub record PlacesInRange (range r : ℕ) : Type 0 where
+  pub whole : r ≡ length (keptRow (2 * range))
+  pub most : r ≤ 16

@@ -1,4 +1,4 @@
--- How the code keeps the rows of the tables.
+-- How a row is handed out, and where steps are looked for in it.
 use Prim.Native.Nat.{ℕ, _+_, _-_, _≤_, min}
 use mathlib.Core.Path.{_≡_}
 use mathlib.Core.List.{List}
@@ -18,6 +18,9 @@ pub record FirstOfThreeIs (places steps r : ℕ) : Type 0 where
   pub within : r + 3 ≤ places
 
 -- a row as sixteen numbers: the steps at its places, and zeros behind them
+abbrev pub sixteen : List ℕ → List ℕ
+sixteen row = tabulate 16 (λ p. getD row p 0)
+
 unfoldable pub rowOf16 : BitAllocTable → ℕ → List ℕ
 unfolding rowOf
-rowOf16 t sb = tabulate 16 (λ p. getD (rowOf t sb) p 0)
+rowOf16 t sb = sixteen (rowOf t sb)

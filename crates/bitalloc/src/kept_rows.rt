@@ -1,13 +1,14 @@
 // The rows of the five allocation tables, each distinct row once, and what the subbands of a range have in common.
 //
-// The subbands of a table lie in up to four ranges, by rising subband: two whose allocation fields have 4 bits, one with 3 and one with 2.
-// Two rows are kept of each range: first that of Tables 3-B.2a and 3-B.2b, then that of the other three tables.
+// Each table is cut into four ranges of subbands, 0 to 3 by rising subband, whose allocation fields have 4, 4, 3 and 2 bits; a table that prints
+// fewer has empty ones. Two rows are kept of each range: first that of Tables 3-B.2a and 3-B.2b, then that of the other three tables.
 ghost use mathlib.Core.Path.{_≡_};
-ghost use Rattle.bitalloc.specs.Kept.{keptRow, paired, sixteen, halfOf, WidthIs, CountIs};
+ghost use Rattle.bitalloc.specs.Kept.{keptRow, inWords, halfOf, NbalInRange, PlacesInRange};
+ghost use Rattle.bitalloc.specs.Storage.{sixteen};
 
-// The steps of a kept row, two places to a word, the even place in the lower half; zeros behind the last place, and where no row is kept.
+// A kept row, two places to a word, the even one in the lower half; zeros behind its last place, and where no row has the number.
 fn words(number: usize) -> [u64; 8]
-    ensures { λ r. ⌜ r ≡ paired (keptRow number) ⌝ }
+    ensures { λ r. ⌜ r ≡ inWords (keptRow number) ⌝ }
 {
     match number {
         0 => [0x3_00000000, 0xf_00000007, 0x3f_0000001f, 0xff_0000007f, 0x3ff_000001ff, 0xfff_000007ff, 0x3fff_00001fff, 0xffff_00007fff],
@@ -36,7 +37,7 @@ pub fn row(number: usize) -> [u32; 16]
     row
 }
 
-// The half of a word that has a place's steps.
+// The steps at a place, from the word that has them.
 fn half(word: u64, place: usize) -> u32
     ensures { λ r. ⌜ r ≡ halfOf word place ⌝ }
 {
@@ -45,7 +46,7 @@ fn half(word: u64, place: usize) -> u32
 
 // The bits of the allocation fields in a range; 0 past the last.
 pub fn nbal(range: usize) -> u32
-    ensures { λ r. ⌜ WidthIs range r ⌝ }
+    ensures { λ r. ⌜ NbalInRange range r ⌝ }
 {
     match range {
         0 => 4,
@@ -58,7 +59,7 @@ pub fn nbal(range: usize) -> u32
 
 // How many places the rows of a range have; none past the last.
 pub fn places(range: usize) -> usize
-    ensures { λ r. ⌜ CountIs range r ⌝ }
+    ensures { λ r. ⌜ PlacesInRange range r ⌝ }
 {
     match range {
         0 => 16,

@@ -1,9 +1,9 @@
 // The bit allocation tables of Layer II: Tables 3-B.2a to d of ISO/IEC 11172-3, Table B.1 of ISO/IEC 13818-3.
 ghost use mathlib.Core.Path.{_≡_};
 ghost use Prim.Native.Nat.{_+_, _*_, _≤_, min};
-ghost use Rattle.bitalloc.specs.Kept.{keptRow, sixteen, endsOf, bytesOf, columnOf, RangeIs};
+ghost use Rattle.bitalloc.specs.Kept.{keptRow, endsOf, wordOf, columnOf, RangeIs};
 ghost use Rattle.bitalloc.specs.Tables.{tableNumbered, tableNumber, SblimitIs, PlacesAre, NbalIs, StepsAre, AllocationIndexIs};
-ghost use Rattle.bitalloc.specs.Storage.{rowOf16, FirstOfThreeIs};
+ghost use Rattle.bitalloc.specs.Storage.{rowOf16, sixteen, FirstOfThreeIs};
 ghost use Rattle.bitalloc.specs.Options.{tableIn};
 
 mod kept_rows;
@@ -124,9 +124,8 @@ impl BitAllocTable {
         kept_rows::places(self.range(sb))
     }
 
-    // The range of the table that a subband lies in, 0 to 3, and 4 where the table does not carry the subband: how many of the four ends it has
-    // reached. All four are compared at once, each in a byte: the top bit of 0x80 + sb - end is set where sb is not below the end, and the product adds
-    // the four bits up.
+    // The range that a subband lies in, 0 to 3, and 4 where the table does not carry the subband: how many of the four ends are at or below it. All four are
+    // compared at once, a byte for each: the top bit of 0x80 + sb - end is set where sb is not below the end. The product adds the four bits up.
     fn range(self, sb: usize) -> usize
         ensures { λ r. ⌜ RangeIs self sb r ⌝ }
     {
@@ -136,9 +135,9 @@ impl BitAllocTable {
         (((reached * 0x01010101) >> 24) & 7) as usize
     }
 
-    // The subbands before which the four ranges end, a byte each, the first in the lowest.
+    // The first subband behind each of the four ranges, a byte each, the first in the lowest.
     fn ends(self) -> u32
-        ensures { λ r. ⌜ r ≡ bytesOf (endsOf self) ⌝ }
+        ensures { λ r. ⌜ r ≡ wordOf (endsOf self) ⌝ }
     {
         match self {
             BitAllocTable::B2a => 0x1b_17_0b_03,
@@ -149,7 +148,7 @@ impl BitAllocTable {
         }
     }
 
-    // The row of a range in the table.
+    // The table's row of a range; zeros for range 4.
     fn row_in(self, range: usize) -> [u32; 16]
         requires { ⌜ range ≤ 4 ⌝ }
         ensures { λ r. ⌜ r ≡ sixteen (keptRow (2 * range + columnOf self)) ⌝ }
@@ -157,7 +156,7 @@ impl BitAllocTable {
         kept_rows::row(2 * range + self.column())
     }
 
-    // Which of the two rows of a range the table has.
+    // Which of a range's two rows the table has.
     fn column(self) -> usize
         ensures { λ r. ⌜ r ≡ columnOf self ⌝ }
     {

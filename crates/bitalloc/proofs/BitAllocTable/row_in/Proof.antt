@@ -2,7 +2,8 @@
 use Prim.Native.Nat.{ℕ, _+_, _*_}
 use mathlib.Core.Path.{ap, _∙_}
 use borrow.Author.Needs.{needs}
-use Rattle.bitalloc.specs.Kept.{keptRow, sixteen}
+use Rattle.bitalloc.specs.Kept.{keptRow}
+use Rattle.bitalloc.specs.Storage.{sixteen}
 use Rattle.bitalloc.proofs.KeptLaws.{column-small}
 use Rattle.bitalloc.proofs.BitAllocTable.row_in.Statement.{statement}
 use Rattle.bitalloc.proofs.BitAllocTable.row_in.Tie as tie

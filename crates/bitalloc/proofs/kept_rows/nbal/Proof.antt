@@ -3,7 +3,7 @@ use mathlib.Core.Path.{sym}
 use native.Mathlib.Omega.{arith}
 use lib.ListN.{List·getD-eq-default}
 use borrow.Author.Needs.{needs}
-use Rattle.bitalloc.specs.Kept.{widths}
+use Rattle.bitalloc.specs.Kept.{nbals}
 use Rattle.bitalloc.proofs.kept_rows.nbal.Statement.{statement}
 use Rattle.bitalloc.proofs.kept_rows.nbal.Tie as tie
 
@@ -23,7 +23,7 @@ returns-5 : tie.Need-returns-5
 returns-5 c =
     let m = c .match .rest in
     record {
-      whole = sym (List·getD-eq-default widths 0 {n = c .before .args .range} (omega (arith, m .0 .0 .0 .1, m .0 .0 .1, m .0 .1, m .1)));
+      whole = sym (List·getD-eq-default nbals 0 {n = c .before .args .range} (omega (arith, m .0 .0 .0 .1, m .0 .0 .1, m .0 .1, m .1)));
       small = search needs
     }
 

@@ -6,14 +6,14 @@ use native.Mathlib.Omega.{arith}
 use lib.ListN.{length, getD, length-set}
 use borrow.Author.Needs.{needs}
 use Rattle.tables.proofs.Listed.{filled, listed}
-use Rattle.bitalloc.specs.Kept.{keptRow, paired, halfOf}
+use Rattle.bitalloc.specs.Kept.{keptRow, inWords, halfOf}
 use Rattle.bitalloc.proofs.KeptLaws.{half-is}
 use Rattle.bitalloc.proofs.kept_rows.row.Statement.{statement}
 use Rattle.bitalloc.proofs.kept_rows.row.Tie as tie
 
 abbrev Inv-loop : tie.InvT-loop
 Inv-loop number words row₀ place₀ row place =
-    (place ≤ 16) × ((words ≡ paired (keptRow number)) × ((length row ≡ 16) × ((k : ℕ) → k < place → getD row k 0 ≡ getD (keptRow number) k 0)))
+    (place ≤ 16) × ((words ≡ inWords (keptRow number)) × ((length row ≡ 16) × ((k : ℕ) → k < place → getD row k 0 ≡ getD (keptRow number) k 0)))
 
 abbrev μ-loop : tie.MeasureT-loop
 μ-loop number words row₀ place₀ row place = 16 - place

@@ -1,10 +1,9 @@
 -- `bitalloc::kept_rows::words` meets its contract: the rows one by one, and none past the last.
 use mathlib.Core.Path.{sym, ap}
-use mathlib.Core.List.{[]}
 use Prim.Native.Nat.{_≤_}
 use native.Mathlib.Omega.{arith}
-use lib.ListN.{List·getD-eq-default}
-use Rattle.bitalloc.specs.Kept.{kept, keptRow, paired}
+use Rattle.bitalloc.specs.Kept.{kept, keptRow, inWords}
+use Rattle.bitalloc.proofs.KeptLaws.{none-kept}
 use Rattle.bitalloc.proofs.kept_rows.words.Statement.{statement}
 use Rattle.bitalloc.proofs.kept_rows.words.Tie as tie
 
@@ -41,12 +40,11 @@ unfolding kept keptRow
 returns-8 c = rw (c .match .keys8)
 
 returns-9 : tie.Need-returns-9
-unfolding kept keptRow
 returns-9 c =
     let n = c .before .args .number in
     let m = c .match .rest in
     let four : 4 ≤ n = omega (arith, m .0 .0 .0 .0 .0 .0 .0 .1, m .0 .0 .0 .0 .0 .0 .1, m .0 .0 .0 .0 .0 .1, m .0 .0 .0 .0 .1) in
-    ap paired (sym (List·getD-eq-default kept [] {n = n} (omega (arith, m .0 .0 .0 .1, m .0 .0 .1, m .0 .1, m .1))))
+    ap inWords (sym (none-kept n (omega (arith, m .0 .0 .0 .1, m .0 .0 .1, m .0 .1, m .1))))
 
 pub words-spec : {M : Type 1} → statement M
 words-spec =
