@@ -58,15 +58,21 @@ kept-apart i j l h e =
 
 -- ---- the range of a subband tells its row, its width and its places
 
+widthFits : BitAllocTable → ℕ → Bool
+widthFits t sb = eqb (getD nbals (rangeNumber t sb) 0) (nbalOf t sb)
+
+countFits : BitAllocTable → ℕ → Bool
+countFits t sb = eqb (length (keptRow (2 * rangeNumber t sb))) (length (rowOf t sb))
+
+rowFits : BitAllocTable → ℕ → Bool
+rowFits t sb = alike (keptRow (rowNumber t sb)) (rowOf t sb)
+
 -- what is proved of a subband, as one test
 fits : BitAllocTable → ℕ → Bool
-fits t sb =
-    eqb (getD nbals (rangeNumber t sb) 0) (nbalOf t sb)
-    && (eqb (length (keptRow (2 * rangeNumber t sb))) (length (rowOf t sb))
-    && alike (keptRow (rowNumber t sb)) (rowOf t sb))
+fits t sb = widthFits t sb && (countFits t sb && rowFits t sb)
 
 computed-fits : (t : BitAllocTable) → T (allBelow 32 (fits t))
-unfolding fits alike kept keptRow rowNumber nbalOf rowOf ranges
+unfolding fits widthFits countFits rowFits alike kept keptRow rowNumber nbalOf rowOf ranges
 computed-fits B2a = tt
 computed-fits B2b = tt
 computed-fits B2c = tt
@@ -114,24 +120,24 @@ unfolding rowNumber
 no-number t sb h = omega arith
 
 -- what a subband's range tells
-pub record Told (t : BitAllocTable) (sb : ℕ) : Type 0 where
+record Told (t : BitAllocTable) (sb : ℕ) : Type 0 where
   pub width : getD nbals (rangeNumber t sb) 0 ≡ nbalOf t sb
   pub count : length (keptRow (2 * rangeNumber t sb)) ≡ length (rowOf t sb)
   pub row : keptRow (rowNumber t sb) ≡ rowOf t sb
 
-pub told : (t : BitAllocTable) (sb : ℕ) → Told t sb
-unfolding fits
+told : (t : BitAllocTable) (sb : ℕ) → Told t sb
+unfolding fits widthFits countFits rowFits
 told t sb = go (decLt sb 32)
   where
-    width : Bool
-    width = eqb (getD nbals (rangeNumber t sb) 0) (nbalOf t sb)
-    count : Bool
-    count = eqb (length (keptRow (2 * rangeNumber t sb))) (length (rowOf t sb))
     go : Dec (sb < 32) → Told t sb
     go (yes h) =
         let both = below 32 (fits t) (computed-fits t) sb h in
-        let rest = second width _ both in
-        record { width = eqb→eq _ _ (first width _ both); count = eqb→eq _ _ (first count _ rest); row = alike→eq _ _ (second count _ rest) }
+        let rest = second (widthFits t sb) _ both in
+        record {
+          width = eqb→eq _ _ (first (widthFits t sb) _ both);
+          count = eqb→eq _ _ (first (countFits t sb) _ rest);
+          row = alike→eq _ _ (second (countFits t sb) _ rest)
+        }
     go (no h) =
         let l : 32 ≤ sb = omega arith in
         let beyond : sblimitOf t ≤ sb = le-trans (sblimit-small t) (le-trans (lit≤ tt) l) in
@@ -173,32 +179,36 @@ kept-once = record {
 
 -- ---- the four ends compared at once
 
--- what the code makes of a subband and the bytes of the ends
-abbrev pub compared : ℕ → ℕ → ℕ
-compared sb ends = bitAnd (bitAnd ((sb * 16843009 + (2155905152 - ends)) / 2 ^ 7) 16843009 * 16843009 / 2 ^ 24) 7
+-- what the code makes of a subband and the word of the ends; 16843009 is 0x01010101, and 2155905152 is 0x80808080
+abbrev pub counted : ℕ → ℕ → ℕ
+counted sb ends = bitAnd (bitAnd ((sb * 16843009 + (2155905152 - ends)) / 2 ^ 7) 16843009 * 16843009 / 2 ^ 24) 7
 
-computed-compared : (t : BitAllocTable) → T (allBelow 33 (λ sb. eqb (compared sb (wordOf (endsOf t))) (rangeNumber t sb)))
-unfolding rangeNumber
-computed-compared B2a = tt
-computed-compared B2b = tt
-computed-compared B2c = tt
-computed-compared B2d = tt
-computed-compared B1Lsf = tt
+countsRight : BitAllocTable → ℕ → Bool
+countsRight t sb = eqb (counted sb (wordOf (endsOf t))) (rangeNumber t sb)
 
-compared-is : (t : BitAllocTable) (sb : ℕ) → compared (min sb 32) (wordOf (endsOf t)) ≡ rangeNumber t sb
-compared-is t sb = go (decLt sb 32)
+computed-counted : (t : BitAllocTable) → T (allBelow 33 (countsRight t))
+unfolding countsRight rangeNumber
+computed-counted B2a = tt
+computed-counted B2b = tt
+computed-counted B2c = tt
+computed-counted B2d = tt
+computed-counted B1Lsf = tt
+
+counted-is : (t : BitAllocTable) (sb : ℕ) → counted (min sb 32) (wordOf (endsOf t)) ≡ rangeNumber t sb
+unfolding countsRight
+counted-is t sb = go (decLt sb 32)
   where
-    upTo : (n : ℕ) → n < 33 → compared n (wordOf (endsOf t)) ≡ rangeNumber t n
-    upTo n h = eqb→eq _ _ (below 33 (λ sb. eqb (compared sb (wordOf (endsOf t))) (rangeNumber t sb)) (computed-compared t) n h)
-    go : Dec (sb < 32) → compared (min sb 32) (wordOf (endsOf t)) ≡ rangeNumber t sb
+    upTo : (n : ℕ) → n < 33 → counted n (wordOf (endsOf t)) ≡ rangeNumber t n
+    upTo n h = eqb→eq _ _ (below 33 (countsRight t) (computed-counted t) n h)
+    go : Dec (sb < 32) → counted (min sb 32) (wordOf (endsOf t)) ≡ rangeNumber t sb
     go (yes h) = let e : min sb 32 ≡ sb = omega arith in rw e (upTo sb (omega arith))
     go (no h) =
         let e : min sb 32 ≡ 32 = omega arith in
         rw e (upTo 32 (lit< tt) ∙ last-range t 32 (lit≤ tt) ∙ sym (last-range t sb (omega arith)))
 
-pub range-is : (t : BitAllocTable) (sb at ends : ℕ) → at ≡ min sb 32 → ends ≡ wordOf (endsOf t) → RangeIs t sb (compared at ends)
+pub range-is : (t : BitAllocTable) (sb at ends : ℕ) → at ≡ min sb 32 → ends ≡ wordOf (endsOf t) → RangeIs t sb (counted at ends)
 range-is t sb at ends a e =
-    let is = ap₂ compared a e ∙ compared-is t sb in
+    let is = ap₂ counted a e ∙ counted-is t sb in
     record { whole = is; most = subst (λ (n : ℕ). n ≤ 4) (sym is) (range-small t sb) }
 
 pub ends-small : (t : BitAllocTable) → wordOf (endsOf t) ≤ 2155905152
@@ -220,19 +230,20 @@ column-small B1Lsf = lit≤ tt
 
 -- ---- a row of two places to a word
 
+halfRight : List ℕ → ℕ → Bool
+halfRight row p = eqb (halfOf (getD (inWords row) (p / 2) 0) p) (getD row p 0)
+
 halves : List ℕ → Bool
-halves row = allBelow 16 (λ p. eqb (halfOf (getD (inWords row) (p / 2) 0) p) (getD row p 0))
+halves row = allBelow 16 (halfRight row)
 
 computed-halves : T (all halves kept)
-unfolding halves kept
+unfolding halves halfRight kept
 computed-halves = tt
 
 -- the half that the code takes has the place's steps
 pub half-is : (number p : ℕ) → p < 16 → halfOf (getD (inWords (keptRow number)) (p / 2) 0) p ≡ getD (keptRow number) p 0
-unfolding halves keptRow
-half-is number p h =
-    let row = getD kept number [] in
-    eqb→eq _ _ (below 16 (λ p. eqb (halfOf (getD (inWords row) (p / 2) 0) p) (getD row p 0)) (all-at halves kept [] tt computed-halves number) p h)
+unfolding halves halfRight keptRow
+half-is number p h = eqb→eq _ _ (below 16 (halfRight (getD kept number [])) (all-at halves kept [] tt computed-halves number) p h)
 
 -- ---- the functions of the table
 

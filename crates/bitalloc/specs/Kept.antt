@@ -68,7 +68,7 @@ abbrev pub reached : ℕ → List ℕ → ℕ
 reached sb [] = 0
 reached sb (e ∷ es) = cond (leb e sb) (suc (reached sb es)) (reached sb es)
 
--- the range that a subband lies in, which as many ends come before; 4 where the table does not carry the subband
+-- the range that a subband lies in: the number of ends at or below it; 4 where the table does not carry the subband
 unfoldable pub rangeNumber : BitAllocTable → ℕ → ℕ
 rangeNumber t sb = reached sb (endsOf t)
 
@@ -80,7 +80,7 @@ columnOf B2c = 1
 columnOf B2d = 1
 columnOf B1Lsf = 1
 
--- the number of a subband's row; 8 or 9, of which no row is kept, where the table does not carry the subband
+-- the number of a subband's row; where the table does not carry the subband it is 8 or 9, and no row has that number
 unfoldable pub rowNumber : BitAllocTable → ℕ → ℕ
 unfolding rangeNumber
 rowNumber t sb = 2 * rangeNumber t sb + columnOf t
@@ -118,7 +118,7 @@ pub record NbalInRange (range r : ℕ) : Type 0 where
   pub whole : r ≡ getD nbals range 0
   pub small : r ≤ 4
 
--- a range's two rows have as many places
+-- both rows of a range have the same number of places, so it is said of the first
 pub record PlacesInRange (range r : ℕ) : Type 0 where
   pub whole : r ≡ length (keptRow (2 * range))
   pub most : r ≤ 16

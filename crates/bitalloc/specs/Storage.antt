@@ -21,6 +21,7 @@ pub record FirstOfThreeIs (places steps r : ℕ) : Type 0 where
 abbrev pub sixteen : List ℕ → List ℕ
 sixteen row = tabulate 16 (λ p. getD row p 0)
 
+-- the sixteen numbers of a subband's row
 unfoldable pub rowOf16 : BitAllocTable → ℕ → List ℕ
 unfolding rowOf
 rowOf16 t sb = sixteen (rowOf t sb)

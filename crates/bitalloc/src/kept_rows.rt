@@ -1,12 +1,17 @@
 // The rows of the five allocation tables, each distinct row once, and what the subbands of a range have in common.
 //
 // Each table is cut into four ranges of subbands, 0 to 3 by rising subband, whose allocation fields have 4, 4, 3 and 2 bits; a table that prints
-// fewer has empty ones. Two rows are kept of each range: first that of Tables 3-B.2a and 3-B.2b, then that of the other three tables.
+// fewer has empty ones. Two rows are kept of each range: first that of Tables 3-B.2a and 3-B.2b, then that of the other three tables. Their subbands:
+//   0: a and b 0 to 2              1: c and d 0 and 1
+//   2: a and b 3 to 10             3: LSF 0 to 3
+//   4: a and b 11 to 22            5: c 2 to 7, d 2 to 11, LSF 4 to 10
+//   6: a 23 to 26, b 23 to 29      7: LSF 11 to 29
 ghost use mathlib.Core.Path.{_≡_};
 ghost use Rattle.bitalloc.specs.Kept.{keptRow, inWords, halfOf, NbalInRange, PlacesInRange};
 ghost use Rattle.bitalloc.specs.Storage.{sixteen};
 
-// A kept row, two places to a word, the even one in the lower half; zeros behind its last place, and where no row has the number.
+// A kept row, two places to a word, the even one in the lower half; zeros behind its last place, and where no row has the number. So
+// 0xf_00000007 has 7 steps at an even place and 15 at the next.
 fn words(number: usize) -> [u64; 8]
     ensures { λ r. ⌜ r ≡ inWords (keptRow number) ⌝ }
 {

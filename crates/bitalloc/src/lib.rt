@@ -124,15 +124,16 @@ impl BitAllocTable {
         kept_rows::places(self.range(sb))
     }
 
-    // The range that a subband lies in, 0 to 3, and 4 where the table does not carry the subband: how many of the four ends are at or below it. All four are
-    // compared at once, a byte for each: the top bit of 0x80 + sb - end is set where sb is not below the end. The product adds the four bits up.
+    // The range that a subband lies in, 0 to 3, and 4 where the table does not carry the subband: how many of the four ends are at or below it. A subband
+    // from 32 on counts as 32. The ends are compared at once, a byte each: the top bit of 0x80 + sb - end is set where sb is not below the end, and
+    // no byte overflows, since sb and the ends are at most 32. Byte 3 of the product is the sum of the four bits.
     fn range(self, sb: usize) -> usize
         ensures { λ r. ⌜ RangeIs self sb r ⌝ }
     {
         let sb_or_32 = smaller(sb, NUM_SUBBANDS) as u64;
         let compared = sb_or_32 * 0x01010101 + (0x80808080 - (self.ends() as u64));
-        let reached = (compared >> 7) & 0x01010101;
-        (((reached * 0x01010101) >> 24) & 7) as usize
+        let flags = (compared >> 7) & 0x01010101;
+        (((flags * 0x01010101) >> 24) & 7) as usize
     }
 
     // The first subband behind each of the four ranges, a byte each, the first in the lowest.
@@ -140,11 +141,11 @@ impl BitAllocTable {
         ensures { λ r. ⌜ r ≡ wordOf (endsOf self) ⌝ }
     {
         match self {
-            BitAllocTable::B2a => 0x1b_17_0b_03,
-            BitAllocTable::B2b => 0x1e_17_0b_03,
-            BitAllocTable::B2c => 0x08_08_02_02,
-            BitAllocTable::B2d => 0x0c_0c_02_02,
-            BitAllocTable::B1Lsf => 0x1e_0b_04_00,
+            BitAllocTable::B2a => 0x1b_17_0b_03,   // 3, 11, 23, 27
+            BitAllocTable::B2b => 0x1e_17_0b_03,   // 3, 11, 23, 30
+            BitAllocTable::B2c => 0x08_08_02_02,   // 2, 2, 8, 8
+            BitAllocTable::B2d => 0x0c_0c_02_02,   // 2, 2, 12, 12
+            BitAllocTable::B1Lsf => 0x1e_0b_04_00, // 0, 4, 11, 30
         }
     }
 
