@@ -1,4 +1,6 @@
 // Numbers side by side in one word: how a writer of bits puts them together and a reader takes them apart. A width counts modulo 32.
+#![tactic(auto)]
+
 ghost use Rattle.std.specs.Prelude.{◌≡◌};
 ghost use Rattle.bit_fields.specs.Fields.{joined, upper, lower};
 
