@@ -3,15 +3,15 @@
 use mathlib.Core.Path.{◌≡◌, refl, sym, ap, ap₂, ◌∙◌, subst}
 use mathlib.Core.Bool.{Bool, true, false, cond}
 use mathlib.Core.List.{List, [], ◌∷◌, ◌++◌}
-use Prim.Native.Nat.{ℕ, zero, suc, ◌+◌, ◌*◌, ◌/◌, ◌%◌, ◌^◌, ◌≤◌, ◌<◌}
-use native.Mathlib.Nat.{mod-eq_of_lt, mod-lt, add_comm, zero-lt-suc, zero-add, suc-add, one-mul, zero-mul, pow-suc}
+use Prim.Native.Nat.{ℕ, zero, suc, ◌+◌, ◌*◌, ◌/◌, ◌%◌, ◌^◌, ◌<◌}
+use native.Mathlib.Nat.{mod-eq_of_lt, add_comm, zero-add, suc-add, one-mul, zero-mul, pow-suc}
 use native.Mathlib.Numerals.{add-one, one-add}
 use native.Mathlib.Omega.{arith}
 use lib.Dec.{eqb, lit<}
-use lib.ListN.{length, take, drop}
-use lib.Pow.{pow_pos, pow-add, shr-shr, mod-pow-add, mod-mod-pow, field, high, low}
+use lib.ListN.{length, drop}
+use lib.Pow.{shr-shr, mod-pow-add, mod-mod-pow, field, high, low}
 use lib.Seq.{take_at, drop_at}
-use borrow.Author.Tests.{eqb-true, eqb-false, eq-eqb}
+use borrow.Author.Tests.{eqb-true, eqb-false}
 use Rattle.bit_string.specs.Bits.{bits_of, value_of, front}
 
 -- ---- how long

@@ -1,11 +1,11 @@
 -- Laws of packing: how a byte that is stored adds eight bits (`stored`), and what packed bytes unpack to (`unpacked_packed`).
 use mathlib.Core.Path.{◌≡◌, refl, sym, ap, ap₂, ◌∙◌, subst}
-use mathlib.Core.Bool.{Bool, true, false}
+use mathlib.Core.Bool.{Bool, false}
 use mathlib.Core.List.{List, [], ◌∷◌, ◌++◌, append-nil, append_assoc}
-use Prim.Native.Nat.{ℕ, zero, suc, ◌+◌, ◌-◌, ◌*◌, ◌/◌, ◌%◌, ◌^◌, ◌≤◌, ◌<◌}
+use Prim.Native.Nat.{ℕ, zero, suc, ◌+◌, ◌-◌, ◌*◌, ◌%◌, ◌^◌, ◌≤◌, ◌<◌}
 use native.Mathlib.Nat.{not-suc-le-zero, le_of_suc-le-suc, zero-add, zero-sub, sub-zero, suc-sub-suc, zero-div, add-zero, mod-eq_of_lt}
 use native.Mathlib.Omega.{arith}
-use lib.ListN.{length, take, drop, set, replicate, length-append, length-drop, drop_of_length-le, replicate-append-replicate}
+use lib.ListN.{length, drop, set, replicate, length-append, length-drop, drop_of_length-le, replicate-append-replicate}
 use lib.Dec.{eqb}
 use lib.Pow.{pow_pos, shl_lt}
 use lib.Seq.{drop-append-le}

@@ -1,6 +1,6 @@
 -- Bit strings, and their packing into bytes. A bit string is the list of its bits in the order in which they travel; of a number the most
 -- significant bit goes first (ISO/IEC 11172-3 2.2.6, uimsbf), and so in a byte.
-use Rattle.std.specs.Prelude.{ℕ, zero, suc, ◌+◌, ◌*◌, ◌/◌, ◌%◌, ◌^◌, Bool, true, false, cond, List, [], ◌∷◌, ◌++◌, eqb, length, take, drop}
+use Rattle.std.specs.Prelude.{ℕ, zero, suc, ◌+◌, ◌/◌, ◌%◌, ◌^◌, Bool, false, cond, List, [], ◌∷◌, ◌++◌, eqb, length, take, drop}
 
 -- the low w bits of a number: bit w - 1, .., bit 1, bit 0
 unfoldable pub bits_of : ℕ → ℕ → List Bool
