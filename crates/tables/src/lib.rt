@@ -1,4 +1,6 @@
 // Table 3-B.1 of ISO/IEC 11172-3, "Layer I, II scalefactors": the multipliers that a scalefactor index selects.
+#![tactic(auto)]
+
 ghost use Rattle.std.specs.Prelude.{◌≡◌};
 ghost use Rattle.tables.specs.Scalefactors.{scalefactors};
 

@@ -2,12 +2,8 @@
 use mathlib.Core.Path.{refl}
 use lib.Ieee.{of_bits}
 use Rattle.tables.specs.Scalefactors.{scalefactors}
-use Rattle.tables.proofs.scalefactors.Statement.{statement}
-use Rattle.tables.proofs.scalefactors.Tie as tie
+use Rattle.tables.proofs.scalefactors.Goals as goal
 
-returns : tie.Need-returns
+pub returns : goal.returns
 unfolding of_bits scalefactors
 returns c = refl
-
-pub scalefactors-spec : {M : Type 1} → statement M
-scalefactors-spec = tie.close (tie.spec returns)
