@@ -1,4 +1,6 @@
 // What the encoder needs of binary64 beyond Rattle's operators: the magnitude, the larger and the smaller of two, from comparisons.
+#![tactic(auto)]
+
 ghost use Rattle.std.specs.Prelude.{◌≡◌};
 ghost use Rattle.ieee_order.specs.Order.{abs_of, chosen_of, max_of, min_of};
 
