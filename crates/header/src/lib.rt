@@ -1,4 +1,6 @@
 // The frame header of ISO/IEC 11172-3 2.4.1.3, as far as the encoder's decisions read it, and the size of its frame.
+#![tactic(auto)]
+
 ghost use Rattle.std.specs.Prelude.{◌≡◌};
 ghost use Rattle.header.specs.Header.{mode_of_code, mode_in, extension_of_code, extension_in, free_format, ChannelsAre, BoundIs, SizeIs};
 
