@@ -1,4 +1,6 @@
 // Reading texts of bytes: comparing, finding a byte, and numbers in decimal digits.
+#![tactic(auto)]
+
 ghost use Rattle.std.specs.Prelude.{◌≡◌, ◌+◌, ◌≤◌, min, drop, eqb};
 ghost use Rattle.plan_text.specs.Bytes.{same, reach};
 ghost use Rattle.plan_text.specs.Digits.{digit, number_to, option_of};
