@@ -4,7 +4,7 @@ ghost use Rattle.active_slots.specs.Active.{ActiveAre};
 use layout::Layout;
 
 // The active slots: the first `count` entries.
-#[derive(Drop)]
+#[derive(Clone, Copy)]
 pub struct ActiveSlots {
     pub slots: [u8; 64],
     pub count: usize,

@@ -7,7 +7,7 @@ ghost use Rattle.allocation_rounds.specs.Answers.{BestIs, Onward, Finished};
 ghost use Rattle.allocation_rounds.specs.Watch.{scanned, watching, Watched, Rewatched};
 
 // The field whose turn it is, with its mask-to-noise ratio.
-#[derive(Drop)]
+#[derive(Clone, Copy)]
 pub enum Candidate {
     Nobody,
     Field(usize, f64),
@@ -168,7 +168,7 @@ fn price_of(places: &[u8; 64], charges: &[u32; 1024], field: usize) -> u32
 }
 
 // The state of a run, by field: the place at which it stands and whether it is closed; and the bits left.
-#[derive(Drop)]
+#[derive(Clone, Copy)]
 pub struct Run {
     pub places: [u8; 64],
     pub closed: [bool; 64],

@@ -8,7 +8,7 @@ use bitalloc::{BitAllocTable, NUM_SUBBANDS};
 use layout::Layout;
 
 // Scalefactor selection information (2.4.2.6): which of the three granules, of 12 samples each, share a scalefactor.
-#[derive(Drop)]
+#[derive(Clone, Copy)]
 pub enum Scfsi {
     // Three scalefactors, one for each granule.
     ThreePerGranule,
@@ -59,13 +59,13 @@ impl Scfsi {
 }
 
 // One slot's scfsi.
-#[derive(Drop)]
+#[derive(Clone, Copy)]
 pub struct ScfsiSlot {
     pub scfsi: Scfsi,
 }
 
 // The side information of one frame.
-#[derive(Drop)]
+#[derive(Clone, Copy)]
 pub struct AudioData {
     pub table: BitAllocTable,
     // How many subbands the table carries.

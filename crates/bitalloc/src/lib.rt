@@ -11,14 +11,14 @@ mod kept_rows;
 pub const NUM_SUBBANDS: usize = 32;
 
 // A number, or nothing.
-#[derive(Drop)]
+#[derive(Clone, Copy)]
 pub enum OptionU32 {
     Some(u32),
     None,
 }
 
 // The five tables of possible quantizations per subband.
-#[derive(Drop)]
+#[derive(Clone, Copy)]
 pub enum BitAllocTable {
     B2a,
     B2b,
@@ -28,7 +28,7 @@ pub enum BitAllocTable {
 }
 
 // A table, or nothing.
-#[derive(Drop)]
+#[derive(Clone, Copy)]
 pub enum OptionTable {
     Some(BitAllocTable),
     None,

@@ -5,7 +5,7 @@ ghost use Rattle.c_answers.specs.Arguments.{header_in, header_numbered, header_f
 use header::{FrameHeader, Mode, ModeExtension, OptionExtension, OptionMode};
 
 // The seven numbers of a call, in the order of the C header.
-#[derive(Drop)]
+#[derive(Clone, Copy)]
 pub struct HeaderNumbers {
     pub lsf: u8,
     pub bit_rate: u32,
@@ -17,7 +17,7 @@ pub struct HeaderNumbers {
 }
 
 // The header that the numbers mean, or nothing.
-#[derive(Drop)]
+#[derive(Clone, Copy)]
 pub enum HeaderGiven {
     Meant(FrameHeader),
     Nothing,

@@ -3,7 +3,7 @@ use crate::{record, show};
 use folgrist_mp2::{frame, side_info};
 
 // The seven arguments of a header.
-#[derive(Drop)]
+#[derive(Clone, Copy)]
 pub struct Head {
     pub lsf: u8,
     pub bit_rate: u32,

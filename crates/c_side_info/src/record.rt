@@ -6,7 +6,7 @@ use audio_data::{Scfsi, ScfsiSlot};
 use c_answers::writing;
 
 // The number that the slices are refused by, or 0 and the record.
-#[derive(Drop)]
+#[derive(Clone, Copy)]
 pub struct RecordGiven {
     pub number: u32,
     pub nb_steps: [u32; 64],
@@ -15,7 +15,7 @@ pub struct RecordGiven {
 }
 
 // The scfsi by slot, and whether each was given by a code.
-#[derive(Drop)]
+#[derive(Clone, Copy)]
 pub struct ScfsiGiven {
     pub meant: bool,
     pub slots: [ScfsiSlot; 64],

@@ -11,7 +11,7 @@ use layout::Layout;
 
 // What `allocate_bits` answers: the answer's number; the record with the steps, or the filler; the bits left; and with number 4 the bits of
 // the frame, the fixed ones and the caller's, which are 0 otherwise.
-#[derive(Drop)]
+#[derive(Clone, Copy)]
 pub struct Allocation {
     pub number: u32,
     pub audio: AudioData,

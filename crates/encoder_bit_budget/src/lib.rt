@@ -11,7 +11,7 @@ use header::{FrameHeader, FrameSize};
 use layout::Layout;
 
 // What is asked of a frame's bits.
-#[derive(Drop)]
+#[derive(Clone, Copy)]
 pub struct Request {
     pub header: FrameHeader,
     // The caller's ancillary bits, which are set aside.
@@ -19,7 +19,7 @@ pub struct Request {
 }
 
 // Why a header has no budget.
-#[derive(Drop)]
+#[derive(Clone, Copy)]
 pub enum BitAllocError {
     RateOffLadder,
     NoBitallocTable,
@@ -40,7 +40,7 @@ impl BitAllocError {
 }
 
 // The bits that are spent before any sample is coded.
-#[derive(Drop)]
+#[derive(Clone, Copy)]
 pub struct FixedBitBudget {
     // The bits of the frame.
     pub cb: u32,
@@ -90,7 +90,7 @@ impl FixedBitBudget {
 }
 
 // What `fixed_bit_budget` answers.
-#[derive(Drop)]
+#[derive(Clone, Copy)]
 pub enum Budget {
     Ok(FixedBitBudget),
     Refused(BitAllocError),
@@ -195,7 +195,7 @@ fn allocation_bits(layout: Layout) -> u32
 }
 
 // What `available_data_bits` answers: the bits, which may be below 0, or the header's refusal.
-#[derive(Drop)]
+#[derive(Clone, Copy)]
 pub enum AvailableBits {
     Bits(i64),
     Refused(BitAllocError),

@@ -14,7 +14,7 @@ use header::FrameHeader;
 use layout::{AllocationField, Layout};
 
 // A number, or nothing.
-#[derive(Drop)]
+#[derive(Clone, Copy)]
 pub enum OptionF64 {
     Some(f64),
     None,
@@ -72,7 +72,7 @@ fn snr_in(table: &[f64; 18], nb_steps: u32) -> OptionF64
 }
 
 // What `demand_bits` answers: the bits, or the header's refusal.
-#[derive(Drop)]
+#[derive(Clone, Copy)]
 pub enum DemandBits {
     Bits(u64),
     Refused(BitAllocError),

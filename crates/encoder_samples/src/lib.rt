@@ -96,7 +96,7 @@ fn capped(code: u64, last: u32) -> u32
 }
 
 // Three samples' codewords: how many, the bits of each, and the codewords, with 0 in the places that are not used.
-#[derive(Drop)]
+#[derive(Clone, Copy)]
 pub struct Triplet {
     pub count: u32,
     pub width: u32,
@@ -144,7 +144,7 @@ fn next_digit(upper: u32, nb_steps: u32, digit: u32) -> u32
 }
 
 // What `quantize_sample_for` answers.
-#[derive(Drop)]
+#[derive(Clone, Copy)]
 pub enum SampleCode {
     Code(u32),
     NoClass,
@@ -162,7 +162,7 @@ pub fn quantize_sample_for(nb_steps: u32, s_double_prime: f64) -> SampleCode
 }
 
 // What `write_triplet_for` answers: 0 and the triplet, or 5 and zeros.
-#[derive(Drop)]
+#[derive(Clone, Copy)]
 pub struct TripletAnswer {
     pub number: u32,
     pub triplet: Triplet,

@@ -9,7 +9,7 @@ ghost use Rattle.encoder_scfsi.specs.Select.{CountIs, SelectionIs};
 use audio_data::Scfsi;
 
 // The class of a difference, an index minus the next granule's.
-#[derive(Drop)]
+#[derive(Clone, Copy)]
 pub enum DifferenceClass {
     Class1,
     Class2,
@@ -51,7 +51,7 @@ pub fn classify_difference(dscf: i16) -> DifferenceClass
 }
 
 // Which of the three used indices are transmitted.
-#[derive(Drop)]
+#[derive(Clone, Copy)]
 pub struct TransmissionPattern {
     pub write0: bool,
     pub write1: bool,
@@ -68,7 +68,7 @@ impl TransmissionPattern {
 }
 
 // What is selected for one slot.
-#[derive(Drop)]
+#[derive(Clone, Copy)]
 pub struct ScfsiSelection {
     // The index used for each granule.
     pub used: [u8; 3],

@@ -5,7 +5,7 @@ ghost use Rattle.std.specs.Prelude.{◌≡◌};
 ghost use Rattle.header.specs.Header.{mode_of_code, mode_in, extension_of_code, extension_in, free_format, ChannelsAre, BoundIs, SizeIs};
 
 // The channel mode (2.4.2.3).
-#[derive(Drop)]
+#[derive(Clone, Copy)]
 pub enum Mode {
     Stereo,
     JointStereo,
@@ -14,7 +14,7 @@ pub enum Mode {
 }
 
 // A mode, or nothing.
-#[derive(Drop)]
+#[derive(Clone, Copy)]
 pub enum OptionMode {
     Some(Mode),
     None,
@@ -48,7 +48,7 @@ impl Mode {
 }
 
 // The mode extension (2.4.2.3): in joint stereo, from which subband on the two channels share their samples.
-#[derive(Drop)]
+#[derive(Clone, Copy)]
 pub enum ModeExtension {
     Bound4,
     Bound8,
@@ -57,7 +57,7 @@ pub enum ModeExtension {
 }
 
 // A mode extension, or nothing.
-#[derive(Drop)]
+#[derive(Clone, Copy)]
 pub enum OptionExtension {
     Some(ModeExtension),
     None,
@@ -91,7 +91,7 @@ impl ModeExtension {
 }
 
 // The fields that a decision reads. Any values make a header; what an entry serves it asks itself.
-#[derive(Drop)]
+#[derive(Clone, Copy)]
 pub struct FrameHeader {
     // The low sampling frequencies of ISO/IEC 13818-3.
     pub lsf: bool,
@@ -107,7 +107,7 @@ pub struct FrameHeader {
 }
 
 // What `frame_size_bytes` answers.
-#[derive(Drop)]
+#[derive(Clone, Copy)]
 pub enum FrameSize {
     Bytes(u64),
     ZeroSampleRate,

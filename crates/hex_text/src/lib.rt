@@ -4,7 +4,7 @@ ghost use Rattle.hex_text.specs.Hex.{past, skipped, wrong_at, HexIs};
 ghost use Rattle.hex_text.specs.Walk.{WorthIs, Put, finished_as};
 
 // What `read_hex` answers.
-#[derive(Drop)]
+#[derive(Clone, Copy)]
 pub enum HexAnswer {
     Accepted,
     // A character that is no digit.
@@ -14,7 +14,7 @@ pub enum HexAnswer {
 }
 
 // The answer to a text, with the line, and for a wrong character the column, that it is about, counted from 1; and how many bytes there are.
-#[derive(Drop)]
+#[derive(Clone, Copy)]
 pub struct HexRead {
     pub answer: HexAnswer,
     pub line: u64,
@@ -23,7 +23,7 @@ pub struct HexRead {
 }
 
 // Where the walk over the text stands: how many lines are before it, how many characters on its line, and whether a comment has begun there.
-#[derive(Drop)]
+#[derive(Clone, Copy)]
 struct Place {
     line: u64,
     column: u64,
@@ -31,7 +31,7 @@ struct Place {
 }
 
 // The digits so far: the bytes that they make, the one that is left over, if one is, and the line of the last.
-#[derive(Drop)]
+#[derive(Clone, Copy)]
 struct Digits {
     count: usize,
     half: bool,

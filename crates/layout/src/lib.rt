@@ -9,7 +9,7 @@ use header::{FrameHeader, Mode};
 pub mod slots;
 
 // An allocation field: its subband, and the channel that it serves, or both, of which channel 0 is the first.
-#[derive(Drop)]
+#[derive(Clone, Copy)]
 pub struct AllocationField {
     pub subband: usize,
     pub channel: usize,
@@ -17,7 +17,7 @@ pub struct AllocationField {
 }
 
 // What says where a frame's fields are.
-#[derive(Drop)]
+#[derive(Clone, Copy)]
 pub struct Layout {
     pub table: BitAllocTable,
     // From this subband on one field serves both channels.

@@ -12,7 +12,7 @@ ghost use Rattle.plan_ratios.specs.Walk.{is_end, WantedAre, FeedsAre, GapEndIs, 
 use plan_text::OptionU64;
 
 // A ratio that may be missing.
-#[derive(Drop)]
+#[derive(Clone, Copy)]
 pub enum OptionRatio {
     Some(f64),
     None,
@@ -139,7 +139,7 @@ fn power_of_ten(n: usize) -> u64
 }
 
 // What `read_ratios` answers.
-#[derive(Drop)]
+#[derive(Clone, Copy)]
 pub enum RatiosAnswer {
     Accepted,
     // A token that is no ratio.
@@ -151,7 +151,7 @@ pub enum RatiosAnswer {
 }
 
 // The ratios of a text: slot 32 * channel + subband, channel 0's first.
-#[derive(Drop)]
+#[derive(Clone, Copy)]
 pub struct Ratios {
     pub answer: RatiosAnswer,
     // Where it is not accepted, the line of the token, or the last line; lines are counted from 1.
@@ -225,7 +225,7 @@ fn refused(answer: RatiosAnswer, line: u64, count: usize) -> Ratios
 }
 
 // A place of a text, and how many line feeds stand before it.
-#[derive(Drop)]
+#[derive(Clone, Copy)]
 struct Gap {
     at: usize,
     feeds: u64,

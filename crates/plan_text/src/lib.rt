@@ -7,7 +7,7 @@ ghost use Rattle.plan_text.specs.Digits.{digit, number_to, option_of};
 ghost use Rattle.plan_text.specs.Worth.{WorthIs};
 
 // A number that may be missing.
-#[derive(Drop)]
+#[derive(Clone, Copy)]
 pub enum OptionU64 {
     Some(u64),
     None,

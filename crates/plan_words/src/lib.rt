@@ -9,7 +9,7 @@ use header::{FrameHeader, Mode, ModeExtension};
 use plan_text::OptionU64;
 
 // What a word sets.
-#[derive(Drop)]
+#[derive(Clone, Copy)]
 enum Setting {
     // fs=
     SampleRate(u32),
@@ -146,7 +146,7 @@ fn read_number(text: &[u8]) -> OptionU64
 }
 
 // What `read_words` answers.
-#[derive(Drop)]
+#[derive(Clone, Copy)]
 pub enum WordsAnswer {
     Accepted,
     // A word that is not known, or whose value cannot be read.
@@ -160,7 +160,7 @@ pub enum WordsAnswer {
 }
 
 // The header and the ancillary bits of a command line.
-#[derive(Drop)]
+#[derive(Clone, Copy)]
 pub struct Words {
     pub answer: WordsAnswer,
     // Where the word is that is not accepted: from `at` to before `end`.
@@ -193,7 +193,7 @@ pub fn read_words(words: &[u8]) -> Words
 }
 
 // What the words before have set, and which keys they gave, by the number of the key.
-#[derive(Drop)]
+#[derive(Clone, Copy)]
 struct Settings {
     header: FrameHeader,
     banc: u32,

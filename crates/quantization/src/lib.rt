@@ -3,7 +3,7 @@ ghost use Rattle.std.specs.Prelude.{◌≡◌};
 ghost use Rattle.quantization.specs.Classes.{classes, grouped, ClassIs, BitsPerSampleAre, SampleBitsAre};
 
 // A class of quantization: a row of Table 3-B.4.
-#[derive(Drop)]
+#[derive(Clone, Copy)]
 pub struct QuantClass {
     pub nb_steps: u32,
     pub c: f64,
@@ -172,7 +172,7 @@ fn quant_classes() -> [QuantClass; 17]
 }
 
 // A class, or nothing.
-#[derive(Drop)]
+#[derive(Clone, Copy)]
 pub enum OptionClass {
     Some(QuantClass),
     None,

@@ -2,7 +2,7 @@
 
 // What `check_record` answers: the answer's number, and the subband and the channel of the slot that 17, 6 or 18 is about; beside any other number both
 // are 0.
-#[derive(Drop)]
+#[derive(Clone, Copy)]
 pub struct RecordCheck {
     pub number: u32,
     pub subband: u32,

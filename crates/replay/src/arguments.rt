@@ -39,7 +39,7 @@ pub fn i64_of(bits: u64) -> i64 {
     }
 }
 
-#[derive(Drop)]
+#[derive(Clone, Copy)]
 pub enum OptionScfsi {
     Some(Scfsi),
     None,
@@ -56,7 +56,7 @@ pub fn scfsi_of(n: u64) -> OptionScfsi {
     }
 }
 
-#[derive(Drop)]
+#[derive(Clone, Copy)]
 pub enum OptionHeader {
     Some(FrameHeader),
     None,

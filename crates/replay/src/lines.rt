@@ -2,7 +2,7 @@
 // of the caller's.
 
 // What was read of a line last.
-#[derive(Drop)]
+#[derive(Clone, Copy)]
 pub enum Part {
     // Nothing yet.
     Start,
@@ -16,7 +16,7 @@ pub enum Part {
 }
 
 // A line of which the end has not been read.
-#[derive(Drop)]
+#[derive(Clone, Copy)]
 pub struct Line {
     // Counted from 1.
     pub number: u64,
@@ -28,7 +28,7 @@ pub struct Line {
 }
 
 // What a line turned out to be at its end.
-#[derive(Drop)]
+#[derive(Clone, Copy)]
 pub enum Ended {
     // An empty line or a comment.
     Skipped,

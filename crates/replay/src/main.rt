@@ -17,7 +17,7 @@ use lines::{Ended, Line};
 use replay_answers::Verdict;
 
 // What a turn of reading leaves: the line that it stopped in, and whether there may be more.
-#[derive(Drop)]
+#[derive(Clone, Copy)]
 struct Turn {
     line: Line,
     more: bool,

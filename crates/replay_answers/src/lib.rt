@@ -4,7 +4,7 @@ ghost use Rattle.replay_answers.specs.Verdicts.{verdict_of, pair_verdict, found_
 
 use bitalloc::OptionU32;
 
-#[derive(Drop)]
+#[derive(Clone, Copy)]
 pub enum Verdict {
     Agree,
     Differ,

@@ -3,7 +3,7 @@ ghost use Rattle.std.specs.Prelude.{◌≡◌, ◌≤◌, ◌<◌};
 ghost use Rattle.side_info_reading.specs.Taken.{number_taken};
 ghost use Rattle.side_info_reader.specs.Cursor.{ahead, Steady, apart, NumberIs};
 
-#[derive(Drop)]
+#[derive(Clone, Copy)]
 pub struct Cursor {
     // How many bytes are taken.
     pub at: usize,
@@ -13,14 +13,14 @@ pub struct Cursor {
 }
 
 // A number that was taken, and the cursor behind it.
-#[derive(Drop)]
+#[derive(Clone, Copy)]
 pub struct Number {
     pub value: u32,
     pub behind: Cursor,
 }
 
 // A number, or the number of its refusal: 9 where the bytes end before its last bit.
-#[derive(Drop)]
+#[derive(Clone, Copy)]
 pub enum NumberRead {
     Got(Number),
     Refused(u32),

@@ -21,21 +21,21 @@ mod cursor;
 use cursor::{Cursor, NumberRead};
 
 // The cursor behind what was read, or the number of the refusal.
-#[derive(Drop)]
+#[derive(Clone, Copy)]
 enum Section {
     Done(Cursor),
     Refused(u32),
 }
 
 // The scfsi by slot, and the section that was read.
-#[derive(Drop)]
+#[derive(Clone, Copy)]
 struct ScfsiRead {
     scfsi: [ScfsiSlot; 64],
     section: Section,
 }
 
 // The scalefactor indices of a slot, and the cursor behind them.
-#[derive(Drop)]
+#[derive(Clone, Copy)]
 struct Three {
     first: u32,
     second: u32,
@@ -44,7 +44,7 @@ struct Three {
 }
 
 // The indices, or the number of the refusal.
-#[derive(Drop)]
+#[derive(Clone, Copy)]
 enum ThreeRead {
     Got(Three),
     Refused(u32),

@@ -3,7 +3,7 @@ use audio_data::ScfsiSlot;
 
 // What `read_side_info` answers: the answer's number; by slot the steps and the scfsi, and the scalefactor indices at 3 * slot + granule; and how many
 // bits were used. Idle slots have no steps, `ThreePerGranule` and indices 0. Beside a refusal every slot is idle, and no bit is used.
-#[derive(Drop)]
+#[derive(Clone, Copy)]
 pub struct ReadSideInfo {
     pub number: u32,
     pub nb_steps: [u32; 64],

@@ -25,7 +25,7 @@ pub const SIDE_INFO_BYTES: usize = 174;
 
 // What a writer of side information answers: the answer's number; the bytes, most significant bit first, with zeros behind the last bit that is used; and
 // how many bits are used. Beside a refusal every byte is 0, and no bit is used.
-#[derive(Drop)]
+#[derive(Clone, Copy)]
 pub struct WrittenSideInfo {
     pub number: u32,
     pub bytes: [u8; SIDE_INFO_BYTES],
@@ -33,14 +33,14 @@ pub struct WrittenSideInfo {
 }
 
 // The place of a field's steps in its row, or the number of the question that they are refused by.
-#[derive(Drop)]
+#[derive(Clone, Copy)]
 enum FieldPlace {
     At(u32),
     Refused(u32),
 }
 
 // The pen behind the allocation fields, or the number of the question that one of them is refused by.
-#[derive(Drop)]
+#[derive(Clone, Copy)]
 enum Allocated {
     Done(Pen),
     Refused(u32),

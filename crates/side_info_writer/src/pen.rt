@@ -3,7 +3,7 @@ ghost use Rattle.std.specs.Prelude.{◌≡◌, ◌+◌, ◌^◌, ◌≤◌, ◌<
 ghost use Rattle.bit_string.specs.Bits.{bits_of};
 ghost use Rattle.side_info_writer.specs.Pen.{Steady, position, Wrote, Finished};
 
-#[derive(Drop)]
+#[derive(Clone, Copy)]
 pub struct Pen {
     // How many bytes are written.
     pub at: usize,

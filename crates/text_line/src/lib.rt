@@ -12,14 +12,14 @@ ghost use Rattle.text_line.specs.Decibels.{minus_text, hundredths_of, hundredths
 pub use page::{PageLine, only};
 
 // The text is the first `length` bytes.
-#[derive(Drop)]
+#[derive(Clone, Copy)]
 pub struct Line {
     pub bytes: [u8; 256],
     pub length: usize,
 }
 
 // A line as it is written, with its line feed: the first `size` bytes.
-#[derive(Drop)]
+#[derive(Clone, Copy)]
 pub struct EndedLine {
     pub bytes: [u8; 257],
     pub size: usize,

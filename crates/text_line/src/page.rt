@@ -6,7 +6,7 @@ ghost use Rattle.text_line.specs.Page.{LineIs};
 use crate::Line;
 
 // A line of a page, and whether there is one: behind the last line it is empty.
-#[derive(Drop)]
+#[derive(Clone, Copy)]
 pub struct PageLine {
     pub there: bool,
     pub line: Line,
