@@ -1,4 +1,6 @@
 // The rounds of the bit allocation (ISO/IEC 11172-3 C.1.5.2.7) over any fields, whose rules are lent as tables.
+#![tactic(auto)]
+
 ghost use Rattle.std.specs.Prelude.{◌≡◌, [], ◌+◌, ◌*◌, ◌≤◌, ◌<◌, min, length, get_or};
 ghost use Rattle.std.specs.Float.{nan};
 ghost use Rattle.allocation_rounds.specs.Rounds.{price, place_in, closed_in, waits, consider, close_at, round, started, raised_by, taken_by};
