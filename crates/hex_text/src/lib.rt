@@ -1,4 +1,6 @@
 // Reading bytes that are written as hexadecimal digits.
+#![tactic(auto)]
+
 ghost use Rattle.std.specs.Prelude.{◌≡◌, ◌<◌, set};
 ghost use Rattle.hex_text.specs.Hex.{past, skipped, wrong_at, HexIs};
 ghost use Rattle.hex_text.specs.Walk.{WorthIs, Put, finished_as};
