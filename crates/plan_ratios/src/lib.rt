@@ -1,4 +1,6 @@
 // Reading signal-to-mask ratios, in decibels, from a text.
+#![tactic(auto)]
+
 ghost use Rattle.std.specs.Prelude.{◌≡◌, ◌+◌, ◌*◌, ◌^◌, ◌<◌, ◌≤◌, length, drop};
 ghost use Rattle.std.proofs.Math.Option.{map};
 ghost use Rattle.std.specs.Float.Ieee.{neg};
