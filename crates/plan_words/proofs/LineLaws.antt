@@ -102,7 +102,7 @@ module _ (text : List ℕ) (st : Settings) (i e : ℕ) (h : i < length text) (f 
     pub at_once : (s : ℕ) (next : Settings) → s ≡ min (e + 1) (length text) → next ≡ with_setting st m → is_given st k ≡ false
         → words_of text ≡ settled next (words_from s text)
     unfolding word
-    at_once s next g n q =
+    at_once s _ g n q =
         met s g
         ∙ once st word (words_from s text) (λ z. known (key ∙ z)) (ap (is_given st) (sym key) ∙ q)
         ∙ ap (λ (t : Settings). settled t (words_from s text)) (sym (n ∙ ap (with_setting st) means))

@@ -1,4 +1,6 @@
 // Reading the words of a command line: a frame header and the ancillary bits.
+#![tactic(auto)]
+
 ghost use Rattle.std.specs.Prelude.{◌≡◌, ◌++◌, ◌<◌};
 ghost use Rattle.plan_text.specs.Digits.{option_of};
 ghost use Rattle.plan_words.specs.Word.{bound_words, flag_words, lookup, number_word, meaning, number, value_after};

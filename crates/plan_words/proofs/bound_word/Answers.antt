@@ -1,0 +1,48 @@
+-- `plan_words::bound_word` meets its contract.
+use mathlib.Core.Path.{sym, ◌∙◌}
+use Rattle.plan_words.specs.Word.{bound_words, lookup}
+use Rattle.plan_words.proofs.bound_word.Goals as goal
+
+pub returns-then-same : goal.returns-then-same
+unfolding lookup bound_words
+returns-then-same c =
+    rw
+    (sym c.same.ensures ∙ c.if-same.true)
+
+pub returns-then-same-2 : goal.returns-then-same-2
+unfolding lookup bound_words
+returns-then-same-2 c =
+    rw (
+      sym c.same.ensures ∙ c.if-same.false,
+      sym c.same-2.ensures ∙ c.if-same-2.true,
+    )
+
+pub returns-then-same-3 : goal.returns-then-same-3
+unfolding lookup bound_words
+returns-then-same-3 c =
+    rw (
+      sym c.same.ensures ∙ c.if-same.false,
+      sym c.same-2.ensures ∙ c.if-same-2.false,
+      sym c.same-3.ensures ∙ c.if-same-3.true,
+    )
+
+pub returns-then-same-4 : goal.returns-then-same-4
+unfolding lookup bound_words
+returns-then-same-4 c =
+    rw (
+      sym c.same.ensures ∙ c.if-same.false,
+      sym c.same-2.ensures ∙ c.if-same-2.false,
+      sym c.same-3.ensures ∙ c.if-same-3.false,
+      sym c.same-4.ensures ∙ c.if-same-4.true,
+    )
+
+pub returns : goal.returns
+unfolding lookup bound_words
+returns c =
+    rw (
+      sym c.same.ensures ∙ c.if-same.false,
+      sym c.same-2.ensures ∙ c.if-same-2.false,
+      sym c.same-3.ensures ∙ c.if-same-3.false,
+      sym c.same-4.ensures ∙ c.if-same-4.false,
+    )
+    c.flag_word.ensures
