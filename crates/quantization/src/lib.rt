@@ -1,4 +1,6 @@
 // The classes of quantization of Layer II: Table 3-B.4 of ISO/IEC 11172-3.
+#![tactic(auto)]
+
 ghost use Rattle.std.specs.Prelude.{◌≡◌};
 ghost use Rattle.quantization.specs.Classes.{classes, grouped, ClassIs, BitsPerSampleAre, SampleBitsAre};
 

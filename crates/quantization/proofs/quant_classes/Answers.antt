@@ -2,12 +2,8 @@
 use mathlib.Core.Path.{refl}
 use lib.Ieee.{of_bits}
 use Rattle.quantization.specs.Classes.{classes}
-use Rattle.quantization.proofs.quant_classes.Statement.{statement}
-use Rattle.quantization.proofs.quant_classes.Tie as tie
+use Rattle.quantization.proofs.quant_classes.Goals as goal
 
-returns : tie.Need-returns
+pub returns : goal.returns
 unfolding of_bits classes
 returns c = refl
-
-pub quant-classes-spec : {M : Type 1} → statement M
-quant-classes-spec = tie.close (tie.spec returns)
