@@ -1,4 +1,6 @@
 // Which bit rates a header can name: bitrate_index in ISO/IEC 11172-3 2.4.2.3 and ISO/IEC 13818-3 2.4.2.3, Layer II.
+#![tactic(auto)]
+
 ghost use Rattle.std.specs.Prelude.{◌≡◌};
 ghost use Rattle.tables.specs.Search.{one_of};
 ghost use Rattle.ladder.specs.Ladder.{ladder, lsf_ladder, bit_rates, on_ladder};
