@@ -1,4 +1,6 @@
 // Scalefactor indices: the search for the multiplier of Table 3-B.1 that covers a granule's samples (ISO/IEC 11172-3 C.1.5.2).
+#![tactic(auto)]
+
 ghost use Rattle.std.specs.Prelude.{◌≡◌, ◌+◌, ◌<◌, ◌≤◌, length};
 ghost use Rattle.tables.specs.Scalefactors.{scalefactors};
 ghost use Rattle.encoder_scalefactors.specs.Indices.{index_at, granule_of, indices_of, PickIs, ScalefactorIndexIs};
