@@ -1,4 +1,6 @@
 // The bit allocation tables of Layer II: Tables 3-B.2a to d of ISO/IEC 11172-3, Table B.1 of ISO/IEC 13818-3.
+#![tactic(auto)]
+
 ghost use Rattle.std.specs.Prelude.{◌≡◌, ◌+◌, ◌*◌, ◌≤◌, min};
 ghost use Rattle.bitalloc.specs.Kept.{kept_row, ends_of, word_of, column_of, RangeIs};
 ghost use Rattle.bitalloc.specs.Tables.{table_numbered, table_number, SblimitIs, PlacesAre, NbalIs, StepsAre, AllocationIndexIs};
