@@ -1,4 +1,6 @@
 // Which bit allocation table a header selects, by its sample rate and its bit rate per channel.
+#![tactic(auto)]
+
 ghost use Rattle.std.specs.Prelude.{◌≡◌};
 ghost use Rattle.std.proofs.Math.Option.{some};
 ghost use Rattle.bitalloc.specs.Options.{number_in, table_in};

@@ -1,0 +1,26 @@
+-- `table_selection::select_table` meets its contract: each of the ways to a table is the definition's.
+use mathlib.Core.Path.{sym, ap, ◌∙◌}
+use mathlib.Core.Option.{none}
+use Rattle.bitalloc.specs.Options.{number_in}
+use Rattle.table_selection.proofs.SelectLaws.{of_lsf, of_free, of_rate, no_kbps}
+use Rattle.table_selection.proofs.select_table.Goals as goal
+
+pub returns-then-header : goal.returns-then-header
+returns-then-header c = of_lsf _ c.if-header.true
+
+pub returns-then-is_free_format : goal.returns-then-is_free_format
+returns-then-is_free_format c =
+    c.free_format_table.ensures
+    ∙ sym (of_free _ c.if-header.false (sym c.is_free_format.ensures ∙ c.if-is_free_format.true))
+
+pub returns-in_default : goal.returns-in_default
+returns-in_default c =
+    let missing = sym c.bitrate_per_channel_kbps-per_channel.ensures ∙ ap number_in c.in_default.is in
+    sym
+    (of_rate _ c.if-header.false (sym c.is_free_format.ensures ∙ c.if-is_free_format.false) none missing ∙ no_kbps _)
+
+pub returns : goal.returns
+returns c =
+    let there = sym c.bitrate_per_channel_kbps-per_channel.ensures ∙ ap number_in c.in-Some.is in
+    c.table_for.ensures
+    ∙ sym (of_rate _ c.if-header.false (sym c.is_free_format.ensures ∙ c.if-is_free_format.false) _ there)
