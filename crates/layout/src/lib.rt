@@ -1,4 +1,6 @@
 // The layout of a frame's side information (ISO/IEC 11172-3 2.4.1.6): its allocation fields and its slots, in the order of the bitstream.
+#![tactic(auto)]
+
 ghost use Rattle.std.specs.Prelude.{◌≡◌};
 ghost use Rattle.header.specs.Header.{bound_of};
 ghost use Rattle.layout.specs.Layout.{own, shared_from, layout_of, ChannelCountIs, FieldsAre, FieldIs, ServingIs, SlotsAre, SlotIs};
