@@ -1,4 +1,6 @@
 // The verdict on a line of the replay: the library's answers beside the numbers that the line expects.
+#![tactic(auto)]
+
 ghost use Rattle.std.specs.Prelude.{◌≡◌};
 ghost use Rattle.replay_answers.specs.Verdicts.{verdict_of, pair_verdict, found_verdict, same_from};
 
