@@ -1,5 +1,7 @@
 // The side information of a Layer II frame (ISO/IEC 11172-3 2.4.1.6): bit allocation, scalefactor selection information
 // and scalefactor indices, as one record.
+#![tactic(auto)]
+
 ghost use Rattle.std.specs.Prelude.{◌≡◌};
 ghost use Rattle.audio_data.specs.Scfsi.{of_code, CodeIs, PartsAre};
 ghost use Rattle.audio_data.specs.Record.{fresh, filler};
