@@ -1,5 +1,7 @@
 // Sample coding of Layer II: ISO/IEC 11172-3 2.4.3.3.4 read backwards, from a normalized sample to its code, and from
 // three consecutive samples to their codewords.
+#![tactic(auto)]
+
 ghost use Rattle.std.specs.Prelude.{◌≡◌, ◌+◌, ◌-◌, ◌*◌, ◌%◌, ◌^◌, min};
 ghost use Rattle.encoder_samples.specs.Samples.{clamped, code_to, last_code, quantized, combined, triplet, NearestIs};
 ghost use Rattle.encoder_samples.specs.Entries.{SampleCodeIs, TripletIs};
