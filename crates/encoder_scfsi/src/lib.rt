@@ -1,5 +1,7 @@
 // Which of the three scalefactor indices of a slot an encoder uses, and which of those it transmits: ISO/IEC 11172-3
 // C.1.5.2.5, with Table C.4.
+#![tactic(auto)]
+
 ghost use Rattle.std.specs.Prelude.{◌≡◌, min, pos, ◌-ℤ◌, get_or};
 ghost use Rattle.encoder_scfsi.specs.Class.{difference_class, NumberIs};
 ghost use Rattle.encoder_scfsi.specs.TableC4.{prescribed_for, named};
