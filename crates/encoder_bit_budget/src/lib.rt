@@ -1,5 +1,7 @@
 // The bits of a frame: what is fixed, and what is offered to samples and scalefactors. The constant terms of the bit allocation of
 // ISO/IEC 11172-3 C.1.5.2.7.
+#![tactic(auto)]
+
 ghost use Rattle.std.specs.Prelude.{◌≡◌, true};
 ghost use Rattle.std.proofs.Math.Option.{some};
 ghost use Rattle.ladder.specs.Ladder.{on_ladder};
@@ -128,8 +130,8 @@ impl Request {
 // The budget under the table that was selected. At 384 kbit/s, the ladder's end, and 1 Hz a frame would have 55,296,001 bytes with padding, so the
 // bits of every frame fit 32 bits.
 fn budget_under(header: FrameHeader, table: BitAllocTable) -> Budget
-    requires header_value { on_ladder header ≡ true }
-    requires header_value_2 { table_of header ≡ some table }
+    requires rate { on_ladder header ≡ true }
+    requires named { table_of header ≡ some table }
     ensures { BudgetIs (plain header 0) result }
 {
     let size = header.frame_size_bytes();
