@@ -131,13 +131,13 @@ pub fn allocate_bits(
     steps: &mut [u32],
     out: &mut [u32],
 ) -> u32
-    ensures answers { Answers
+    ensures steps_written { Answers
         (answered
         (asked (ltb (length smr_db.now) 64 || (ltb (length steps.old) 64 || ltb (length out.old) 4))
         (header_numbered given))
         (steps_allocated smr_db.now banc))
         steps.old result steps.new }
-    ensures answers_2 { Answers
+    ensures out_written { Answers
         (answered
         (asked (ltb (length smr_db.now) 64 || (ltb (length steps.old) 64 || ltb (length out.old) 4))
         (header_numbered given))

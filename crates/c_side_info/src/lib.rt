@@ -22,13 +22,13 @@ pub fn write_side_info(
     bytes: &mut [u8],
     out: &mut [u32],
 ) -> u32
-    ensures answers { Answers
+    ensures bytes_written { Answers
         (answered
         (frame_numbered (ltb (length bytes.old) 174 || ltb (length out.old) 1)
         given steps.now scfsi.now index.now)
         bytes_written)
         bytes.old result bytes.new }
-    ensures answers_2 { Answers
+    ensures out_written { Answers
         (answered
         (frame_numbered (ltb (length bytes.old) 174 || ltb (length out.old) 1)
         given steps.now scfsi.now index.now)
@@ -47,13 +47,13 @@ pub fn write_side_info_canonical(
     bytes: &mut [u8],
     out: &mut [u32],
 ) -> u32
-    ensures answers { Answers
+    ensures bytes_written { Answers
         (answered
         (frame_numbered (ltb (length bytes.old) 174 || ltb (length out.old) 1)
         given steps.now scfsi.now index.now)
         bytes_canonical)
         bytes.old result bytes.new }
-    ensures answers_2 { Answers
+    ensures out_written { Answers
         (answered
         (frame_numbered (ltb (length bytes.old) 174 || ltb (length out.old) 1)
         given steps.now scfsi.now index.now)
@@ -73,13 +73,13 @@ fn write(
     bytes: &mut [u8],
     out: &mut [u32],
 ) -> u32
-    ensures answers { Answers
+    ensures bytes_written { Answers
         (answered
         (frame_numbered (ltb (length bytes.old) 174 || ltb (length out.old) 1)
         given steps.now scfsi.now index.now)
         (bytes_by canonical))
         bytes.old result bytes.new }
-    ensures answers_2 { Answers
+    ensures out_written { Answers
         (answered
         (frame_numbered (ltb (length bytes.old) 174 || ltb (length out.old) 1)
         given steps.now scfsi.now index.now)
@@ -113,8 +113,8 @@ fn write(
 // A writer's answer into its slices.
 fn put_written(written: WrittenSideInfo, bytes: &mut [u8], out: &mut [u32]) -> u32
     requires { (174 ≤ length bytes.old) × (1 ≤ length out.old) }
-    ensures answers { Answers (bytes_in written) bytes.old result bytes.new }
-    ensures answers_2 { Answers (bits_in written) out.old result out.new }
+    ensures bytes_written { Answers (bytes_in written) bytes.old result bytes.new }
+    ensures out_written { Answers (bits_in written) out.old result out.new }
 {
     let values = written.bytes;
     writing::put_bytes(&values, bytes);

@@ -20,22 +20,22 @@ pub fn read_side_info(
     index: &mut [u8],
     out: &mut [u32],
 ) -> u32
-    ensures answers { Answers
+    ensures steps_written { Answers
         (answered
         (asked (short steps.old scfsi.old index.old out.old) (header_numbered given))
         (steps_read bytes.now))
         steps.old result steps.new }
-    ensures answers_2 { Answers
+    ensures scfsi_written { Answers
         (answered
         (asked (short steps.old scfsi.old index.old out.old) (header_numbered given))
         (scfsi_read bytes.now))
         scfsi.old result scfsi.new }
-    ensures answers_3 { Answers
+    ensures index_written { Answers
         (answered
         (asked (short steps.old scfsi.old index.old out.old) (header_numbered given))
         (indices_read bytes.now))
         index.old result index.new }
-    ensures answers_4 { Answers
+    ensures out_written { Answers
         (answered
         (asked (short steps.old scfsi.old index.old out.old) (header_numbered given))
         (bits_read bytes.now))
@@ -75,10 +75,10 @@ fn put_read(
     out: &mut [u32],
 ) -> u32
     requires { (64 ≤ length steps.old) × (64 ≤ length scfsi.old) × (192 ≤ length index.old) × (1 ≤ length out.old) }
-    ensures answers { Answers (steps_in read) steps.old result steps.new }
-    ensures answers_2 { Answers (scfsi_in read) scfsi.old result scfsi.new }
-    ensures answers_3 { Answers (indices_in read) index.old result index.new }
-    ensures answers_4 { Answers (bits_in read) out.old result out.new }
+    ensures steps_written { Answers (steps_in read) steps.old result steps.new }
+    ensures scfsi_written { Answers (scfsi_in read) scfsi.old result scfsi.new }
+    ensures index_written { Answers (indices_in read) index.old result index.new }
+    ensures out_written { Answers (bits_in read) out.old result out.new }
 {
     let nb_steps = read.nb_steps;
     let slots = read.scfsi;

@@ -73,12 +73,12 @@ pub fn allocation_index(table: u8, sb: u64, steps: u32, out: &mut [u32]) -> u32
 
 // The class of quantization of a number of steps.
 pub fn class_of_quantization(steps: u32, cd: &mut [f64], out: &mut [u32]) -> u32
-    ensures answers { Answers
+    ensures cd_written { Answers
         (answered
         (asked (ltb (length cd.old) 2 || ltb (length out.old) 4) (some steps))
         coefficients)
         cd.old result cd.new }
-    ensures answers_2 { Answers
+    ensures out_written { Answers
         (answered
         (asked (ltb (length cd.old) 2 || ltb (length out.old) 4) (some steps))
         class_figures)

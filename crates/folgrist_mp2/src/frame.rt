@@ -191,13 +191,13 @@ pub extern "C" fn folgrist_allocate_bits(
     steps: &mut [u32],
     out: &mut [u32],
 ) -> u32
-    ensures answers { Answers
+    ensures steps_written { Answers
         (answered
         (header_meant (ltb (length smr_db.now) 64 || (ltb (length steps.old) 64 || ltb (length out.old) 4))
         lsf bit_rate sample_rate padding protection_bit mode mode_extension)
         (steps_allocated smr_db.now banc))
         steps.old result steps.new }
-    ensures answers_2 { Answers
+    ensures out_written { Answers
         (answered
         (header_meant (ltb (length smr_db.now) 64 || (ltb (length steps.old) 64 || ltb (length out.old) 4))
         lsf bit_rate sample_rate padding protection_bit mode mode_extension)

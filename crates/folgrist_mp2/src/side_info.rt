@@ -25,14 +25,14 @@ pub extern "C" fn folgrist_write_side_info(
     bytes: &mut [u8],
     out: &mut [u32],
 ) -> u32
-    ensures answers { Answers
+    ensures bytes_written { Answers
         (answered
         (frame_meant (ltb (length bytes.old) 174 || ltb (length out.old) 1)
         lsf bit_rate sample_rate padding protection_bit mode mode_extension
         steps.now scfsi.now index.now)
         bytes_written)
         bytes.old result bytes.new }
-    ensures answers_2 { Answers
+    ensures out_written { Answers
         (answered
         (frame_meant (ltb (length bytes.old) 174 || ltb (length out.old) 1)
         lsf bit_rate sample_rate padding protection_bit mode mode_extension
@@ -74,14 +74,14 @@ pub extern "C" fn folgrist_write_side_info_canonical(
     bytes: &mut [u8],
     out: &mut [u32],
 ) -> u32
-    ensures answers { Answers
+    ensures bytes_written { Answers
         (answered
         (frame_meant (ltb (length bytes.old) 174 || ltb (length out.old) 1)
         lsf bit_rate sample_rate padding protection_bit mode mode_extension
         steps.now scfsi.now index.now)
         bytes_canonical)
         bytes.old result bytes.new }
-    ensures answers_2 { Answers
+    ensures out_written { Answers
         (answered
         (frame_meant (ltb (length bytes.old) 174 || ltb (length out.old) 1)
         lsf bit_rate sample_rate padding protection_bit mode mode_extension
@@ -123,25 +123,25 @@ pub extern "C" fn folgrist_read_side_info(
     index: &mut [u8],
     out: &mut [u32],
 ) -> u32
-    ensures answers { Answers
+    ensures steps_written { Answers
         (answered
         (asked (short steps.old scfsi.old index.old out.old)
         (header_in lsf bit_rate sample_rate padding protection_bit mode mode_extension))
         (steps_read bytes.now))
         steps.old result steps.new }
-    ensures answers_2 { Answers
+    ensures scfsi_written { Answers
         (answered
         (asked (short steps.old scfsi.old index.old out.old)
         (header_in lsf bit_rate sample_rate padding protection_bit mode mode_extension))
         (scfsi_read bytes.now))
         scfsi.old result scfsi.new }
-    ensures answers_3 { Answers
+    ensures index_written { Answers
         (answered
         (asked (short steps.old scfsi.old index.old out.old)
         (header_in lsf bit_rate sample_rate padding protection_bit mode mode_extension))
         (indices_read bytes.now))
         index.old result index.new }
-    ensures answers_4 { Answers
+    ensures out_written { Answers
         (answered
         (asked (short steps.old scfsi.old index.old out.old)
         (header_in lsf bit_rate sample_rate padding protection_bit mode mode_extension))

@@ -47,12 +47,12 @@ pub extern "C" fn folgrist_allocation_index(table: u8, sb: u64, steps: u32, out:
 // The class of quantization of a number of steps.
 #[unsafe(no_mangle)]
 pub extern "C" fn folgrist_class_of_quantization(steps: u32, cd: &mut [f64], out: &mut [u32]) -> u32
-    ensures answers { Answers
+    ensures cd_written { Answers
         (answered
         (asked (ltb (length cd.old) 2 || ltb (length out.old) 4) (some steps))
         coefficients)
         cd.old result cd.new }
-    ensures answers_2 { Answers
+    ensures out_written { Answers
         (answered
         (asked (ltb (length cd.old) 2 || ltb (length out.old) 4) (some steps))
         class_figures)
