@@ -1,5 +1,5 @@
--- What reading leaves in a buffer. What the words and the input are no contract of the kit says: `os::arg` and `io::read_full` answer a count
--- within the buffer, and `os::arg_count` and `os::errno` any number.
+-- What reading leaves in a buffer. What the words and the input are no contract of the kit says: `Env::arg` and `Read::read` answer a count
+-- within the buffer, or an error, and the number of words, which is found by asking, may be any.
 use Rattle.std.specs.Prelude.{ℕ, ◌+◌, ◌-◌, ◌≤◌, ◌<◌, min, ◌≡◌, false, List, [], ◌∷◌, ◌++◌, length, take, drop, set}
 use Rattle.word_notes.specs.Notes.{wants_input}
 

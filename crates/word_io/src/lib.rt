@@ -1,31 +1,46 @@
 // What the programs whose words give a frame header read: the words of the command line, and standard input.
+#![tactic(auto)]
+
 ghost use Rattle.std.specs.Prelude.{◌≤◌, length};
 ghost use Rattle.word_io.specs.Words.{WordEnded, WordRead, WordsRead, InputRead};
 
+use std::env::{Env, FillError};
+use std::io;
+use std::io::Read;
+
+// How many words the command line has, the program's name among them.
+pub fn word_count(rt: &impl Env) -> usize {
+    for i in 0..usize::MAX {
+        if matches!(rt.arg(i, &mut []), Err(FillError::NotPresent)) {
+            return i;
+        }
+    }
+    usize::MAX
+}
+
 // Puts the words of the command line, `count` with the program's name, one behind the other, each ended by a byte 0, and answers how many
 // bytes they take; the whole buffer, which the programs refuse, where they do not fit.
-pub fn read_words(count: usize, words: &mut [u8]) -> usize
+pub fn read_words(rt: &impl Env, count: usize, words: &mut [u8]) -> usize
     ensures { WordsRead count words.old words.new result }
 {
     let mut at: usize = 0;
     let mut i: usize = 1;
     while i < count {
-        at = read_word(i, words, at);
+        at = read_word(rt, i, words, at);
         i = i + 1;
     }
     at
 }
 
 // Puts a word at a place, and answers the place behind its byte 0.
-fn read_word(i: usize, words: &mut [u8], at: usize) -> usize
+fn read_word(rt: &impl Env, i: usize, words: &mut [u8], at: usize) -> usize
     requires { at ≤ length words.old }
     ensures { WordRead words.old words.new at result }
 {
-    let size = os::arg(i, &mut words[at..]);
-    if os::errno() != 0 {
-        return words.len();
+    match rt.arg(i, &mut words[at..]) {
+        Ok(size) => end_word(words, at + size),
+        Err(_) => words.len(),
     }
-    end_word(words, at + size)
 }
 
 // Puts the byte 0 behind a word, and answers the place behind it; the buffer's end where there is no room.
@@ -41,12 +56,35 @@ fn end_word(words: &mut [u8], end: usize) -> usize
 }
 
 // Reads the input, where the words are such that it is asked for, and answers how many bytes it takes.
-pub fn read_input(words: &[u8], input: &mut [u8]) -> usize
+pub fn read_input(
+    rt: &impl Input,
+    words: &[u8],
+    input: &mut [u8],
+    outcome: &mut io::Result<()>,
+) -> usize
     ensures { InputRead words.now input.old input.new result }
 {
     if word_notes::wants_input(words) {
-        io::read_full(0, input)
+        read_full(&mut rt.reader(), input, outcome)
     } else {
         0
     }
+}
+
+// Reads until the buffer is full, the input ends or a read fails, and answers how many bytes it takes.
+fn read_full(from: &mut impl Read, input: &mut [u8], outcome: &mut io::Result<()>) -> usize
+    ensures { result ≤ length input.new }
+{
+    let mut at: usize = 0;
+    while at < input.len() {
+        match from.read(&mut input[at..]) {
+            Ok(0) => break,
+            Ok(n) => at = at + n,
+            Err(e) => {
+                *outcome = Err(e);
+                break;
+            }
+        }
+    }
+    at
 }

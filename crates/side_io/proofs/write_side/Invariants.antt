@@ -1,0 +1,11 @@
+-- The loop's invariant: as many lines are there as were written.
+use Rattle.std.proofs.Common.{◌-◌, ◌≤◌}
+use Rattle.side_show.specs.Side.{side_of}
+use Rattle.word_io.proofs.WrittenLaws.{Counted}
+use Rattle.side_io.proofs.write_side.Given as goal
+
+abbrev pub invariant-loop-n : goal.invariant-loop-n
+invariant-loop-n g l = (l.n ≤ 18446744073709551615) × Counted (side_of l.words l.input) l.n
+
+abbrev pub decreases-loop-n : goal.decreases-loop-n
+decreases-loop-n g l = 18446744073709551615 - l.n
