@@ -1,5 +1,11 @@
 // The planner: does this frame carry this signal? The words of the command line give the frame, standard input the signal-to-mask
 // ratios; the answer goes to standard output.
-fn main() {
-    plan_io::run();
+#![tactic(auto)]
+
+use std::io;
+
+fn main(rt: HostRuntime) -> io::Result<()> {
+    let mut outcome = Ok(());
+    plan_io::run(&rt, &mut outcome);
+    outcome
 }

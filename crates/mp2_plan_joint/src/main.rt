@@ -1,4 +1,10 @@
 // The planner, run on a frame in joint stereo.
-fn main() {
-    plan_io::run();
+#![tactic(auto)]
+
+use std::io;
+
+fn main(rt: HostRuntime) -> io::Result<()> {
+    let mut outcome = Ok(());
+    plan_io::run(&rt, &mut outcome);
+    outcome
 }

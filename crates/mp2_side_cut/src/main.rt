@@ -1,4 +1,10 @@
 // The same, run on a frame that is cut off within its scalefactors.
-fn main() {
-    side_io::run();
+#![tactic(auto)]
+
+use std::io;
+
+fn main(rt: HostRuntime) -> io::Result<()> {
+    let mut outcome = Ok(());
+    side_io::run(&rt, &mut outcome);
+    outcome
 }

@@ -40,7 +40,7 @@ fn with_input(header: FrameHeader, input: &[u8], n: usize) -> PageLine
     if 65_536 <= input.len() {
         return only(word_notes::long_input(), n);
     }
-    let mut bytes = io::large_buffer();
+    let mut bytes = [0u8; 65_536];
     let read = hex_text::read_hex(input, &mut bytes);
     let answer = read.answer;
     match answer {
