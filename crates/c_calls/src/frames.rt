@@ -1,6 +1,7 @@
 // The functions of a header.
 use crate::{record, show};
 use folgrist_mp2::{frame, side_info};
+use std::io;
 
 // The seven arguments of a header.
 #[derive(Clone, Copy)]
@@ -14,17 +15,17 @@ pub struct Head {
     pub mode_extension: u8,
 }
 
-pub fn ask(h: Head, banc: u32) {
-    select_table(h);
-    frame_size_bytes(h);
-    fixed_bit_budget(h);
-    available_data_bits(h, banc);
-    demand_bits(h);
-    allocate_bits(h, banc);
-    write_side_info(h);
+pub fn ask(rt: &impl Print, h: Head, banc: u32) -> io::Result<()> {
+    select_table(rt, h)?;
+    frame_size_bytes(rt, h)?;
+    fixed_bit_budget(rt, h)?;
+    available_data_bits(rt, h, banc)?;
+    demand_bits(rt, h)?;
+    allocate_bits(rt, h, banc)?;
+    write_side_info(rt, h)
 }
 
-fn select_table(h: Head) {
+fn select_table(rt: &impl Print, h: Head) -> io::Result<()> {
     let mut out = [9u32; 1];
     let number = frame::folgrist_select_table(
         h.lsf,
@@ -36,10 +37,10 @@ fn select_table(h: Head) {
         h.mode_extension,
         &mut out,
     );
-    show::words(b"select_table", number, &out);
+    show::words(rt, "select_table", number, &out)
 }
 
-fn frame_size_bytes(h: Head) {
+fn frame_size_bytes(rt: &impl Print, h: Head) -> io::Result<()> {
     let mut out = [9u64; 1];
     let number = frame::folgrist_frame_size_bytes(
         h.lsf,
@@ -51,10 +52,10 @@ fn frame_size_bytes(h: Head) {
         h.mode_extension,
         &mut out,
     );
-    show::one(b"frame_size_bytes", number, out[0]);
+    show::one(rt, "frame_size_bytes", number, out[0])
 }
 
-fn fixed_bit_budget(h: Head) {
+fn fixed_bit_budget(rt: &impl Print, h: Head) -> io::Result<()> {
     let mut out = [9u32; 8];
     let number = frame::folgrist_fixed_bit_budget(
         h.lsf,
@@ -66,10 +67,10 @@ fn fixed_bit_budget(h: Head) {
         h.mode_extension,
         &mut out,
     );
-    show::words(b"fixed_bit_budget", number, &out);
+    show::words(rt, "fixed_bit_budget", number, &out)
 }
 
-fn available_data_bits(h: Head, banc: u32) {
+fn available_data_bits(rt: &impl Print, h: Head, banc: u32) -> io::Result<()> {
     let mut out = [9i64; 1];
     let number = frame::folgrist_available_data_bits(
         h.lsf,
@@ -82,10 +83,10 @@ fn available_data_bits(h: Head, banc: u32) {
         banc,
         &mut out,
     );
-    show::one(b"available_data_bits", number, show::not_below_zero(out[0]));
+    show::one(rt, "available_data_bits", number, show::not_below_zero(out[0]))
 }
 
-fn demand_bits(h: Head) {
+fn demand_bits(rt: &impl Print, h: Head) -> io::Result<()> {
     let smr_db = ratios();
     let mut out = [9u64; 1];
     let number = frame::folgrist_demand_bits(
@@ -99,10 +100,10 @@ fn demand_bits(h: Head) {
         &smr_db,
         &mut out,
     );
-    show::one(b"demand_bits", number, out[0]);
+    show::one(rt, "demand_bits", number, out[0])
 }
 
-fn allocate_bits(h: Head, banc: u32) {
+fn allocate_bits(rt: &impl Print, h: Head, banc: u32) -> io::Result<()> {
     let smr_db = ratios();
     let mut steps = [9u32; 64];
     let mut out = [9u32; 4];
@@ -119,11 +120,11 @@ fn allocate_bits(h: Head, banc: u32) {
         &mut steps,
         &mut out,
     );
-    show::words(b"allocate_bits", number, &steps);
-    show::words(b"allocate_bits, out", number, &out);
+    show::words(rt, "allocate_bits", number, &steps)?;
+    show::words(rt, "allocate_bits, out", number, &out)
 }
 
-fn write_side_info(h: Head) {
+fn write_side_info(rt: &impl Print, h: Head) -> io::Result<()> {
     let steps = record::steps();
     let scfsi = record::scfsi();
     let indices = record::indices();
@@ -143,15 +144,15 @@ fn write_side_info(h: Head) {
         &mut bytes,
         &mut out,
     );
-    show::bytes(b"write_side_info", number, &bytes);
-    show::words(b"write_side_info, out", number, &out);
-    check_record(h, &steps, &scfsi, &indices);
-    read_side_info(h, &bytes);
+    show::bytes(rt, "write_side_info", number, &bytes)?;
+    show::words(rt, "write_side_info, out", number, &out)?;
+    check_record(rt, h, &steps, &scfsi, &indices)?;
+    read_side_info(rt, h, &bytes)
 }
 
 // From what was written. What is read is written in its one form, with other scfsi, which gives the same bytes; and it is checked, and again with steps in
 // subband 28: joint stereo shares it, the single channel does not carry it, and that of LSF does.
-fn read_side_info(h: Head, bytes: &[u8]) {
+fn read_side_info(rt: &impl Print, h: Head, bytes: &[u8]) -> io::Result<()> {
     let mut steps = [9u32; 64];
     let mut scfsi = [9u8; 64];
     let mut indices = [9u8; 192];
@@ -170,17 +171,17 @@ fn read_side_info(h: Head, bytes: &[u8]) {
         &mut indices,
         &mut out,
     );
-    show::words(b"read_side_info, steps", number, &steps);
-    show::bytes(b"read_side_info, scfsi", number, &scfsi);
-    show::bytes(b"read_side_info, indices", number, &indices);
-    show::words(b"read_side_info, out", number, &out);
-    write_side_info_canonical(h, &steps, &[0; 64], &indices);
-    check_record(h, &steps, &scfsi, &indices);
+    show::words(rt, "read_side_info, steps", number, &steps)?;
+    show::bytes(rt, "read_side_info, scfsi", number, &scfsi)?;
+    show::bytes(rt, "read_side_info, indices", number, &indices)?;
+    show::words(rt, "read_side_info, out", number, &out)?;
+    write_side_info_canonical(rt, h, &steps, &[0; 64], &indices)?;
+    check_record(rt, h, &steps, &scfsi, &indices)?;
     steps[28] = 3;
-    check_record(h, &steps, &scfsi, &indices);
+    check_record(rt, h, &steps, &scfsi, &indices)
 }
 
-fn write_side_info_canonical(h: Head, steps: &[u32], scfsi: &[u8], indices: &[u8]) {
+fn write_side_info_canonical(rt: &impl Print, h: Head, steps: &[u32], scfsi: &[u8], indices: &[u8]) -> io::Result<()> {
     let mut bytes = [9u8; 174];
     let mut out = [9u32; 1];
     let number = side_info::folgrist_write_side_info_canonical(
@@ -197,11 +198,11 @@ fn write_side_info_canonical(h: Head, steps: &[u32], scfsi: &[u8], indices: &[u8
         &mut bytes,
         &mut out,
     );
-    show::bytes(b"write_side_info_canonical", number, &bytes);
-    show::words(b"write_side_info_canonical, out", number, &out);
+    show::bytes(rt, "write_side_info_canonical", number, &bytes)?;
+    show::words(rt, "write_side_info_canonical, out", number, &out)
 }
 
-fn check_record(h: Head, steps: &[u32], scfsi: &[u8], indices: &[u8]) {
+fn check_record(rt: &impl Print, h: Head, steps: &[u32], scfsi: &[u8], indices: &[u8]) -> io::Result<()> {
     let mut out = [9u32; 2];
     let number = side_info::folgrist_check_record(
         h.lsf,
@@ -216,7 +217,7 @@ fn check_record(h: Head, steps: &[u32], scfsi: &[u8], indices: &[u8]) {
         indices,
         &mut out,
     );
-    show::words(b"check_record", number, &out);
+    show::words(rt, "check_record", number, &out)
 }
 
 // From 30 dB down by three quarters of one from slot to slot.

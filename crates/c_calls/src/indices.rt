@@ -1,34 +1,35 @@
 // The functions of scalefactors and samples.
 use crate::show;
 use folgrist_mp2::{samples, scalefactors};
+use std::io;
 
-pub fn ask() {
-    pick_scalefactor_index(0.7);
-    extract_scalefactor_index();
-    compute_scalefactors(20);
-    select_scfsi(20, 10, 15);
-    quantize_sample(7, 0.3);
-    write_triplet(7, 0.9, 0.1, -0.6);
-    write_triplet(5, 0.9, 0.1, -0.6);
+pub fn ask(rt: &impl Print) -> io::Result<()> {
+    pick_scalefactor_index(rt, 0.7)?;
+    extract_scalefactor_index(rt)?;
+    compute_scalefactors(rt, 20)?;
+    select_scfsi(rt, 20, 10, 15)?;
+    quantize_sample(rt, 7, 0.3)?;
+    write_triplet(rt, 7, 0.9, 0.1, -0.6)?;
+    write_triplet(rt, 5, 0.9, 0.1, -0.6)
 }
 
-fn pick_scalefactor_index(max_abs: f64) {
+fn pick_scalefactor_index(rt: &impl Print, max_abs: f64) -> io::Result<()> {
     let index = scalefactors::folgrist_pick_scalefactor_index(max_abs);
-    show::returned(b"pick_scalefactor_index", index as u32);
+    show::returned(rt, "pick_scalefactor_index", index as u32)
 }
 
-fn extract_scalefactor_index() {
+fn extract_scalefactor_index(rt: &impl Print) -> io::Result<()> {
     let frame = falling();
     let mut out = [9u8; 1];
     let number = scalefactors::folgrist_extract_scalefactor_index(&frame, &mut out);
-    show::bytes(b"extract_scalefactor_index", number, &out);
+    show::bytes(rt, "extract_scalefactor_index", number, &out)
 }
 
-fn compute_scalefactors(limit: u64) {
+fn compute_scalefactors(rt: &impl Print, limit: u64) -> io::Result<()> {
     let frame = falling();
     let mut out = [9u8; 96];
     let number = scalefactors::folgrist_compute_scalefactors(&frame, limit, &mut out);
-    show::bytes(b"compute_scalefactors", number, &out);
+    show::bytes(rt, "compute_scalefactors", number, &out)
 }
 
 // 1152 samples that fall from 0.9 by the same factor from one to the next.
@@ -44,20 +45,20 @@ fn falling() -> [f64; 1152] {
     frame
 }
 
-fn select_scfsi(a: u8, b: u8, c: u8) {
+fn select_scfsi(rt: &impl Print, a: u8, b: u8, c: u8) -> io::Result<()> {
     let mut out = [9u8; 9];
     let number = scalefactors::folgrist_select_scfsi(a, b, c, &mut out);
-    show::bytes(b"select_scfsi", number, &out);
+    show::bytes(rt, "select_scfsi", number, &out)
 }
 
-fn quantize_sample(steps: u32, sample: f64) {
+fn quantize_sample(rt: &impl Print, steps: u32, sample: f64) -> io::Result<()> {
     let mut out = [9u32; 1];
     let number = samples::folgrist_quantize_sample(steps, sample, &mut out);
-    show::words(b"quantize_sample", number, &out);
+    show::words(rt, "quantize_sample", number, &out)
 }
 
-fn write_triplet(steps: u32, a: f64, b: f64, c: f64) {
+fn write_triplet(rt: &impl Print, steps: u32, a: f64, b: f64, c: f64) -> io::Result<()> {
     let mut out = [9u32; 5];
     let number = samples::folgrist_write_triplet(steps, a, b, c, &mut out);
-    show::words(b"write_triplet", number, &out);
+    show::words(rt, "write_triplet", number, &out)
 }

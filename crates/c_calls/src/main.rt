@@ -1,6 +1,8 @@
 // Calls every function of the C library, its arguments by position, and prints the number of the answer and what is written. The
 // arguments are chosen so that two parameters of one type that change places in a signature change what is printed, wherever such a
 // change can change an answer.
+#![tactic(auto)]
+
 mod frames;
 mod indices;
 mod record;
@@ -8,14 +10,15 @@ mod rows;
 mod show;
 
 use frames::Head;
+use std::io;
 
-fn main() {
-    frames::ask(joint(), 1_000);
-    frames::ask(single(), 2);
-    frames::ask(largest(), 3);
-    rows::ask();
-    indices::ask();
-    version();
+fn main(rt: HostRuntime) -> io::Result<()> {
+    frames::ask(&rt, joint(), 1_000)?;
+    frames::ask(&rt, single(), 2)?;
+    frames::ask(&rt, largest(), 3)?;
+    rows::ask(&rt)?;
+    indices::ask(&rt)?;
+    version(&rt)
 }
 
 // Joint stereo with bound 12, padding and a CRC.
@@ -57,6 +60,6 @@ fn largest() -> Head {
     }
 }
 
-fn version() {
-    show::returned(b"version", folgrist_mp2::version::folgrist_version());
+fn version(rt: &impl Print) -> io::Result<()> {
+    show::returned(rt, "version", folgrist_mp2::version::folgrist_version())
 }

@@ -1,79 +1,76 @@
 // How a line is printed: the name of a function, the number that it returns, and what it writes.
+use std::io;
 
-pub fn words(name: &[u8], number: u32, written: &[u32]) {
-    io::write_all(1, name);
-    word(number);
-    all_words(written);
-    end();
+pub fn words(rt: &impl Print, name: &str, number: u32, written: &[u32]) -> io::Result<()> {
+    print!(rt; "{name}")?;
+    word(rt, number)?;
+    all_words(rt, written)?;
+    end(rt)
 }
 
-pub fn bytes(name: &[u8], number: u32, written: &[u8]) {
-    io::write_all(1, name);
-    word(number);
-    all_bytes(written);
-    end();
+pub fn bytes(rt: &impl Print, name: &str, number: u32, written: &[u8]) -> io::Result<()> {
+    print!(rt; "{name}")?;
+    word(rt, number)?;
+    all_bytes(rt, written)?;
+    end(rt)
 }
 
-pub fn doubles(name: &[u8], number: u32, written: &[f64]) {
-    io::write_all(1, name);
-    word(number);
-    all_doubles(written);
-    end();
+pub fn doubles(rt: &impl Print, name: &str, number: u32, written: &[f64]) -> io::Result<()> {
+    print!(rt; "{name}")?;
+    word(rt, number)?;
+    all_doubles(rt, written)?;
+    end(rt)
 }
 
-pub fn one(name: &[u8], number: u32, written: u64) {
-    io::write_all(1, name);
-    word(number);
-    value(written);
-    end();
+pub fn one(rt: &impl Print, name: &str, number: u32, written: u64) -> io::Result<()> {
+    print!(rt; "{name}")?;
+    word(rt, number)?;
+    value(rt, written)?;
+    end(rt)
 }
 
 // A function that returns a value and writes nothing.
-pub fn returned(name: &[u8], number: u32) {
-    io::write_all(1, name);
-    word(number);
-    end();
+pub fn returned(rt: &impl Print, name: &str, number: u32) -> io::Result<()> {
+    print!(rt; "{name}")?;
+    word(rt, number)?;
+    end(rt)
 }
 
-fn all_words(values: &[u32]) {
-    let mut i: usize = 0;
-    while i < values.len() {
-        word(values[i]);
-        i = i + 1;
+fn all_words(rt: &impl Print, values: &[u32]) -> io::Result<()> {
+    for n in values {
+        word(rt, *n)?;
     }
+    Ok(())
 }
 
-fn all_bytes(values: &[u8]) {
-    let mut i: usize = 0;
-    while i < values.len() {
-        byte(values[i]);
-        i = i + 1;
+fn all_bytes(rt: &impl Print, values: &[u8]) -> io::Result<()> {
+    for n in values {
+        byte(rt, *n)?;
     }
+    Ok(())
 }
 
-fn all_doubles(values: &[f64]) {
-    let mut i: usize = 0;
-    while i < values.len() {
-        value(bits(values[i]));
-        i = i + 1;
+fn all_doubles(rt: &impl Print, values: &[f64]) -> io::Result<()> {
+    for x in values {
+        value(rt, bits(*x))?;
     }
+    Ok(())
 }
 
-fn word(n: u32) {
-    value(n as u64);
+fn word(rt: &impl Print, n: u32) -> io::Result<()> {
+    value(rt, n as u64)
 }
 
-fn byte(n: u8) {
-    value(n as u64);
+fn byte(rt: &impl Print, n: u8) -> io::Result<()> {
+    value(rt, n as u64)
 }
 
-fn value(n: u64) {
-    io::write_all(1, b" ");
-    io::print_decimal(1, n);
+fn value(rt: &impl Print, n: u64) -> io::Result<()> {
+    print!(rt; " {n}")
 }
 
-fn end() {
-    io::write_all(1, b"\n");
+fn end(rt: &impl Print) -> io::Result<()> {
+    println!(rt)
 }
 
 // A double's bits, and 0 for a NaN.

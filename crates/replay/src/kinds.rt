@@ -1,9 +1,10 @@
 // The kinds of answers. For each kind a function calls the library with a line's arguments and compares what comes
 // back with the answers that the line has behind them. A new kind is its function, an arm of `replay`, its name as an
-// arm of one of the functions that `print_name` calls, with the range there, and one more place in the counts of main.rt.
+// arm of one of the functions that `name_of` calls, with the range there, and one more place in the counts of main.rt.
 // Tests are joined by `&` where the check of a branch would take longer.
 use crate::{budget_kinds, sample_kinds, scalefactor_kinds, side_info_kinds, table_kinds};
 use replay_answers::Verdict;
+use std::io;
 
 // Replays a line of `count` numbers, the first of which is the kind. The functions that it calls take the same two, and
 // their comments say what stands behind the kind: the arguments, an arrow, the expected answers. H is a header, as
@@ -47,81 +48,89 @@ pub fn replay(count: usize, numbers: &[u64; 256]) -> Verdict {
     }
 }
 
-// Writes the kind's name, and answers false where there is no such kind or the name cannot be written. The names stand in
-// several functions because the time to check one grows with the square of its names.
-pub fn print_name(kind: usize) -> bool {
+// Writes the kind's name, and answers false where there is no such kind.
+pub fn print_name(rt: &impl Print, kind: usize) -> io::Result<bool> {
+    let Some(name) = name_of(kind) else {
+        return Ok(false);
+    };
+    print!(rt; "{name}")?;
+    Ok(true)
+}
+
+// The kind's name. The names stand in several functions because the time to check one grows with the square of its names.
+fn name_of(kind: usize) -> Option<&'static str> {
     match kind {
-        1..=10 => print_table_name(kind),
-        11..=16 => print_class_name(kind),
-        17..=24 => print_sample_name(kind),
-        25..=29 => print_budget_name(kind),
-        30..=36 => print_count_name(kind),
-        _ => false,
+        1..=10 => table_name(kind),
+        11..=16 => class_name(kind),
+        17..=24 => sample_name(kind),
+        25..=29 => budget_name(kind),
+        30..=36 => count_name(kind),
+        _ => None,
     }
 }
 
-fn print_table_name(kind: usize) -> bool {
+fn table_name(kind: usize) -> Option<&'static str> {
     match kind {
-        1 => io::write_all(1, b"sblimit"),
-        2 => io::write_all(1, b"nbal"),
-        3 => io::write_all(1, b"nb_steps"),
-        4 => io::write_all(1, b"allocation_index"),
-        5 => io::write_all(1, b"mode_channels"),
-        6 => io::write_all(1, b"bound"),
-        7 => io::write_all(1, b"is_free_format"),
-        8 => io::write_all(1, b"frame_size_bytes"),
-        9 => io::write_all(1, b"bitrate_per_channel_kbps"),
-        10 => io::write_all(1, b"select_table"),
-        _ => false,
+        1 => Some("sblimit"),
+        2 => Some("nbal"),
+        3 => Some("nb_steps"),
+        4 => Some("allocation_index"),
+        5 => Some("mode_channels"),
+        6 => Some("bound"),
+        7 => Some("is_free_format"),
+        8 => Some("frame_size_bytes"),
+        9 => Some("bitrate_per_channel_kbps"),
+        10 => Some("select_table"),
+        _ => None,
     }
 }
 
-fn print_class_name(kind: usize) -> bool {
+fn class_name(kind: usize) -> Option<&'static str> {
     match kind {
-        11 => io::write_all(1, b"class_of_quantization"),
-        12 => io::write_all(1, b"is_grouped"),
-        13 => io::write_all(1, b"bits_per_sample"),
-        14 => io::write_all(1, b"sample_bits_for"),
-        15 => io::write_all(1, b"scalefactors"),
-        16 => io::write_all(1, b"channels"),
-        _ => false,
+        11 => Some("class_of_quantization"),
+        12 => Some("is_grouped"),
+        13 => Some("bits_per_sample"),
+        14 => Some("sample_bits_for"),
+        15 => Some("scalefactors"),
+        16 => Some("channels"),
+        _ => None,
     }
 }
 
-fn print_sample_name(kind: usize) -> bool {
+fn sample_name(kind: usize) -> Option<&'static str> {
     match kind {
-        17 => io::write_all(1, b"pick_scalefactor_index"),
-        18 => io::write_all(1, b"extract_scalefactor_index"),
-        19 => io::write_all(1, b"compute_scalefactors"),
-        20 => io::write_all(1, b"select_scfsi"),
-        21 => io::write_all(1, b"scfsi_checksum"),
-        22 => io::write_all(1, b"quantize_sample"),
-        23 => io::write_all(1, b"write_triplet"),
-        24 => io::write_all(1, b"classify_difference"),
-        _ => false,
+        17 => Some("pick_scalefactor_index"),
+        18 => Some("extract_scalefactor_index"),
+        19 => Some("compute_scalefactors"),
+        20 => Some("select_scfsi"),
+        21 => Some("scfsi_checksum"),
+        22 => Some("quantize_sample"),
+        23 => Some("write_triplet"),
+        24 => Some("classify_difference"),
+        _ => None,
     }
 }
 
-fn print_budget_name(kind: usize) -> bool {
+fn budget_name(kind: usize) -> Option<&'static str> {
     match kind {
-        25 => io::write_all(1, b"snr_db"),
-        26 => io::write_all(1, b"fixed_bit_budget"),
-        27 => io::write_all(1, b"available_data_bits"),
-        28 => io::write_all(1, b"demand_bits"),
-        29 => io::write_all(1, b"allocate_bits"),
-        _ => false,
+        25 => Some("snr_db"),
+        26 => Some("fixed_bit_budget"),
+        27 => Some("available_data_bits"),
+        28 => Some("demand_bits"),
+        29 => Some("allocate_bits"),
+        _ => None,
     }
 }
 
-fn print_count_name(kind: usize) -> bool {
+fn count_name(kind: usize) -> Option<&'static str> {
     match kind {
-        30 => io::write_all(1, b"transmitted_count"),
-        31 => io::write_all(1, b"parts_on_wire"),
-        32 => io::write_all(1, b"fixed"),
-        33 => io::write_all(1, b"write_side_info"),
-        34 => io::write_all(1, b"read_side_info"),
-        35 => io::write_all(1, b"check_record"),
-        36 => io::write_all(1, b"write_side_info_canonical"),
-        _ => false,
+        30 => Some("transmitted_count"),
+        31 => Some("parts_on_wire"),
+        32 => Some("fixed"),
+        33 => Some("write_side_info"),
+        34 => Some("read_side_info"),
+        35 => Some("check_record"),
+        36 => Some("write_side_info_canonical"),
+        _ => None,
     }
 }

@@ -1,6 +1,8 @@
 // Replays answers of another implementation, which it reads from standard input, one to a line: calls the library with
 // the same arguments, compares, and prints for each kind how many lines agreed. A line is numbers with a space between
 // them: the kind, the arguments, the expected answers. A line that begins with # is a comment.
+#![tactic(auto)]
+
 mod answers;
 mod arguments;
 mod budget_kinds;
@@ -15,6 +17,8 @@ ghost use Rattle.std.specs.Prelude.{◌<◌};
 
 use lines::{Ended, Line};
 use replay_answers::Verdict;
+use std::io;
+use std::io::Read;
 
 // What a turn of reading leaves: the line that it stopped in, and whether there may be more.
 #[derive(Clone, Copy)]
@@ -23,21 +27,28 @@ struct Turn {
     more: bool,
 }
 
-fn main() {
+fn main(rt: HostRuntime) -> io::Result<()> {
     let mut numbers = [0u64; 256];
     // For each kind, 1 to 36, its lines and those that agreed; at 0 the lines that could not be read.
     let mut seen = [0u64; 37];
     let mut agreed = [0u64; 37];
     // The number of the first line that did not agree or could not be read, or 0.
     let mut first: u64 = 0;
-    read_all(&mut numbers, &mut seen, &mut agreed, &mut first);
-    print_kinds(&seen, &agreed);
-    print_rest(seen[0], first);
+    read_all(
+        &mut rt.reader(),
+        &mut numbers,
+        &mut seen,
+        &mut agreed,
+        &mut first,
+    );
+    print_kinds(&rt, &seen, &agreed)?;
+    print_rest(&rt, seen[0], first)
 }
 
 // A proved loop has to end, and nothing says that the input does: so the turns are counted down from a number that no
 // run uses up.
 fn read_all(
+    from: &mut impl Read,
     numbers: &mut [u64; 256],
     seen: &mut [u64; 37],
     agreed: &mut [u64; 37],
@@ -46,7 +57,7 @@ fn read_all(
     let mut line = Line::first();
     let mut turns = u64::MAX;
     while turns > 0 {
-        let turn = read_some(line, numbers, seen, agreed, first);
+        let turn = read_some(from, line, numbers, seen, agreed, first);
         line = turn.line;
         if !turn.more {
             break;
@@ -58,27 +69,24 @@ fn read_all(
 
 // Reads once, and goes through what came. Where the read fails, the line counts as one that could not be read.
 fn read_some(
+    from: &mut impl Read,
     line: Line,
     numbers: &mut [u64; 256],
     seen: &mut [u64; 37],
     agreed: &mut [u64; 37],
     first: &mut u64,
 ) -> Turn {
-    let mut buffer = io::large_buffer();
-    let got = libc::read(0, &mut buffer);
-    if got < 0 {
-        return Turn {
+    let mut buffer = [0u8; 65_536];
+    match from.read(&mut buffer) {
+        Ok(0) => Turn { line, more: false },
+        Ok(n) => Turn {
+            line: feed(&buffer[..n], line, numbers, seen, agreed, first),
+            more: true,
+        },
+        Err(_) => Turn {
             line: line.malformed(),
             more: false,
-        };
-    }
-    if got == 0 {
-        return Turn { line, more: false };
-    }
-    let n = io::count(got, &buffer);
-    Turn {
-        line: feed(&buffer[..n], line, numbers, seen, agreed, first),
-        more: true,
+        },
     }
 }
 
@@ -163,32 +171,26 @@ fn note_first(number: u64, first: &mut u64) {
     }
 }
 
-fn print_kinds(seen: &[u64; 37], agreed: &[u64; 37]) {
+fn print_kinds(rt: &impl Print, seen: &[u64; 37], agreed: &[u64; 37]) -> io::Result<()> {
     let mut kind: usize = 1;
     while kind < 37 {
-        if !kinds::print_name(kind) {
-            return;
+        if !kinds::print_name(rt, kind)? {
+            return Ok(());
         }
-        print_count(agreed[kind], seen[kind]);
+        print_count(rt, agreed[kind], seen[kind])?;
         kind = kind + 1;
     }
+    Ok(())
 }
 
-fn print_count(agreed: u64, seen: u64) {
-    io::write_all(1, b": ");
-    io::print_decimal(1, agreed);
-    io::write_all(1, b" of ");
-    io::print_decimal(1, seen);
-    io::write_all(1, b" agree\n");
+fn print_count(rt: &impl Print, agreed: u64, seen: u64) -> io::Result<()> {
+    println!(rt; ": {agreed} of {seen} agree")
 }
 
-fn print_rest(unread: u64, first: u64) {
-    io::write_all(1, b"unread: ");
-    io::print_decimal(1, unread);
-    io::write_all(1, b"\n");
+fn print_rest(rt: &impl Print, unread: u64, first: u64) -> io::Result<()> {
+    println!(rt; "unread: {unread}")?;
     if first != 0 {
-        io::write_all(1, b"first at line ");
-        io::print_decimal(1, first);
-        io::write_all(1, b"\n");
+        println!(rt; "first at line {first}")?;
     }
+    Ok(())
 }

@@ -1,28 +1,27 @@
 // Lines of scalefactor indices, scfsi and sample codes.
 use crate::show;
 use encoder_samples::SampleCode;
+use std::io;
 
-pub fn scalefactors() {
+pub fn scalefactors(rt: &impl Print) -> io::Result<()> {
     let answered = [index(0.0), index(1.0), index(2.0), index(3.0)];
-    show::numbers(
-        b"scalefactor index of the maxima 0.0, 1.0, 2.0 and 3.0:",
+    show::numbers(rt, "scalefactor index of the maxima 0.0, 1.0, 2.0 and 3.0:",
         &[62, 3, 0, 0],
         &answered,
-    );
+    )
 }
 
 fn index(max_abs: f64) -> u64 {
     encoder_scalefactors::pick_scalefactor_index(max_abs) as u64
 }
 
-pub fn scfsi() {
-    show::numbers(
-        b"scalefactor indices used for 10, 12, 11:",
+pub fn scfsi(rt: &impl Print) -> io::Result<()> {
+    show::numbers(rt, "scalefactor indices used for 10, 12, 11:",
         &[10, 10, 10],
         &used([10, 12, 11]),
-    );
-    show::numbers(b"for 0, 3, 3:", &[0, 3, 3], &used([0, 3, 3]));
-    show::numbers(b"for 0, 2, 4:", &[0, 0, 0], &used([0, 2, 4]));
+    )?;
+    show::numbers(rt, "for 0, 3, 3:", &[0, 3, 3], &used([0, 3, 3]))?;
+    show::numbers(rt, "for 0, 2, 4:", &[0, 0, 0], &used([0, 2, 4]))
 }
 
 fn used(given: [u8; 3]) -> [u64; 3] {
@@ -31,22 +30,21 @@ fn used(given: [u8; 3]) -> [u64; 3] {
     [indices[0] as u64, indices[1] as u64, indices[2] as u64]
 }
 
-pub fn samples() {
+pub fn samples(rt: &impl Print) -> io::Result<()> {
     let answered = [
         code(3, -1.0),
         code(3, 0.0),
         code(3, 1.0),
         codeword_of_ones(),
     ];
-    show::numbers(
-        b"3 steps: codes of -1, 0 and 1, codeword of three ones:",
+    show::numbers(rt, "3 steps: codes of -1, 0 and 1, codeword of three ones:",
         &[0, 1, 2, 26],
         &answered,
-    );
+    )?;
     let answered = [code(7, 1.0), code(7, 2.0)];
-    show::numbers(b"7 steps: codes of 1.0 and 2.0:", &[6, 7], &answered);
+    show::numbers(rt, "7 steps: codes of 1.0 and 2.0:", &[6, 7], &answered)?;
     let answered = [code(15, 1.0)];
-    show::numbers(b"15 steps: code of 1.0:", &[15], &answered);
+    show::numbers(rt, "15 steps: code of 1.0:", &[15], &answered)
 }
 
 // The code of a sample; where the steps have no class, a number that no code is.

@@ -1,22 +1,26 @@
 // How a line is printed: the question, the answers, and a remark where they are not the expected ones.
+use std::io;
 
-pub fn numbers(question: &[u8], expected: &[u64], answered: &[u64]) {
-    io::write_all(1, question);
-    print_all(answered);
-    end_line(same(expected, answered));
+pub fn numbers(
+    rt: &impl Print,
+    question: &str,
+    expected: &[u64],
+    answered: &[u64],
+) -> io::Result<()> {
+    print!(rt; "{question}")?;
+    print_all(rt, answered)?;
+    end_line(rt, same(expected, answered))
 }
 
-fn print_all(numbers: &[u64]) {
-    let mut i: usize = 0;
-    while i < numbers.len() {
-        print_after_space(numbers[i]);
-        i = i + 1;
+fn print_all(rt: &impl Print, numbers: &[u64]) -> io::Result<()> {
+    for n in numbers {
+        print_after_space(rt, *n)?;
     }
+    Ok(())
 }
 
-fn print_after_space(n: u64) {
-    io::write_all(1, b" ");
-    io::print_decimal(1, n);
+fn print_after_space(rt: &impl Print, n: u64) -> io::Result<()> {
+    print!(rt; " {n}")
 }
 
 fn same(a: &[u64], b: &[u64]) -> bool {
@@ -33,10 +37,10 @@ fn same(a: &[u64], b: &[u64]) -> bool {
     true
 }
 
-fn end_line(as_expected: bool) {
+fn end_line(rt: &impl Print, as_expected: bool) -> io::Result<()> {
     if as_expected {
-        io::write_all(1, b"\n");
+        println!(rt)
     } else {
-        io::write_all(1, b" - not as expected\n");
+        println!(rt; " - not as expected")
     }
 }
