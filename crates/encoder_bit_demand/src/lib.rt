@@ -1,5 +1,7 @@
 // What the signal-to-mask ratios demand of a frame's bits: the signal-to-noise ratios of Table C.5 and the required bit rate of
 // ISO/IEC 11172-3 Annex G.1.
+#![tactic(auto)]
+
 ghost use Rattle.std.specs.Prelude.{◌≡◌, ◌≤◌, ◌<◌, length, take};
 ghost use Rattle.std.specs.Float.Ieee.{le};
 ghost use Rattle.bitalloc.specs.Tables.{sblimit_of};

@@ -2,12 +2,8 @@
 use mathlib.Core.Path.{refl}
 use lib.Ieee.{of_bits}
 use Rattle.encoder_bit_demand.specs.Snr.{decibels}
-use Rattle.encoder_bit_demand.proofs.snr_table.Statement.{statement}
-use Rattle.encoder_bit_demand.proofs.snr_table.Tie as tie
+use Rattle.encoder_bit_demand.proofs.snr_table.Goals as goal
 
-returns : tie.Need-returns
+pub returns : goal.returns
 unfolding of_bits decibels
 returns c = refl
-
-pub snr-table-spec : {M : Type 1} → statement M
-snr-table-spec = tie.close (tie.spec returns)
