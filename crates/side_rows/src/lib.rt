@@ -1,4 +1,6 @@
 // The rows that show side information, one for each active slot.
+#![tactic(auto)]
+
 ghost use Rattle.std.specs.Prelude.{◌≡◌, ◌++◌, get_or};
 ghost use Rattle.tables.specs.Scalefactors.{printed};
 ghost use Rattle.audio_data.specs.Scfsi.{three};
