@@ -1,5 +1,7 @@
 // The lines that stand alone where the words of a command line cannot be read, or the words or the input are too long: for every program whose words
 // give a frame header.
+#![tactic(auto)]
+
 ghost use Rattle.std.specs.Prelude.{◌≡◌, ◌++◌};
 ghost use Rattle.plan_text.specs.Quoted.{text};
 ghost use Rattle.text_line.specs.Line.{text_of, cut};
