@@ -1,4 +1,5 @@
 // What a check of a record of side information answers, and what its answers mean. Definitions and laws: no function stands here.
+#![tactic(auto)]
 
 // What `check_record` answers: the answer's number, and the subband and the channel of the slot that 17, 6 or 18 is about; beside any other number both
 // are 0.
