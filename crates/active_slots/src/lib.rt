@@ -1,4 +1,6 @@
 // The active slots of a frame (ISO/IEC 11172-3 2.4.1.6): those that send scfsi and scalefactors.
+#![tactic(auto)]
+
 ghost use Rattle.active_slots.specs.Active.{ActiveAre};
 
 use layout::Layout;
