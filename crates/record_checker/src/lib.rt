@@ -1,4 +1,6 @@
 // The check of a record of side information: whether its steps, scfsi and scalefactor indices hang together in a header's layout.
+#![tactic(auto)]
+
 ghost use Rattle.std.specs.Prelude.{◌≡◌};
 ghost use Rattle.audio_data.specs.Scfsi.{three, agreeing};
 ghost use Rattle.side_info.specs.SideInfo.{side_info};
