@@ -1,4 +1,6 @@
 // The lines that stand above and below the rows of a page on a frame, and the line of a refusal.
+#![tactic(auto)]
+
 mod budget;
 mod lines;
 mod refusal;
