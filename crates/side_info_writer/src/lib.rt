@@ -1,4 +1,6 @@
 // The writer of a frame's side information (ISO/IEC 11172-3 2.4.1.6): its allocation fields, scfsi and scalefactors as bits.
+#![tactic(auto)]
+
 ghost use Rattle.std.specs.Prelude.{◌≡◌, true, ◌+◌, ◌≤◌, length};
 ghost use mathlib.Core.List.{[], flat_map};
 ghost use Rattle.active_slots.specs.Active.{SlotsIn, listed};
