@@ -1,5 +1,7 @@
 // The rounds of the bit allocation over the fields of a frame (ISO/IEC 11172-3 C.1.5.2.7): the tables that they read, where they end, and the
 // steps that the slots then have.
+#![tactic(auto)]
+
 ghost use Rattle.std.specs.Prelude.{◌≡◌, ◌+◌, ◌-◌, ◌*◌, ◌<◌, length};
 ghost use Rattle.bitalloc.specs.Tables.{row_of};
 ghost use Rattle.layout.specs.Layout.{fields_of};
