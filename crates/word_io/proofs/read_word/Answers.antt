@@ -1,4 +1,4 @@
-use Rattle.std.proofs.Common.{rules, ◌≤◌, length, ◌≡◌, ℕ, ◌+◌, ◌-◌}
+use Rattle.std.proofs.Common.{rules, length, ◌≡◌, ◌-◌}
 use borrow.Rule.Slice.PartMut.{put_mid, take_put}
 use Rattle.word_io.proofs.WordLaws.{word_there}
 use Rattle.word_io.proofs.read_word.Goals as goal
