@@ -1,4 +1,6 @@
 // What a reader of side information answers, that what is written comes back, and that what is read passes the check of records. Definitions and laws: no function stands here.
+#![tactic(auto)]
+
 use audio_data::ScfsiSlot;
 
 // What `read_side_info` answers: the answer's number; by slot the steps and the scfsi, and the scalefactor indices at 3 * slot + granule; and how many
