@@ -17,5 +17,4 @@ returns-in-3 c = rw c.in-3.is
 
 pub returns-in_default : goal.returns-in_default
 returns-in_default c =
-    let m = c.in_default.in_default-own.rest in
-    no_code _ _ _ _ c.args.code (omega (arith, m.0.0.0.1, m.0.0.1, m.0.1, m.1))
+    no_code _ _ _ _ c.args.code (omega arith)
