@@ -8,8 +8,7 @@ ghost use Rattle.c_answers.specs.Replies.{budget_fixed, bits_available, bits_dem
 use c_answers::arguments::HeaderNumbers;
 
 // The allocation table that a header selects.
-#[unsafe(no_mangle)]
-pub extern "C" fn folgrist_select_table(
+pub fn folgrist_select_table(
     lsf: u8,
     bit_rate: u32,
     sample_rate: u32,
@@ -41,8 +40,7 @@ pub extern "C" fn folgrist_select_table(
 }
 
 // The length of the frame in bytes.
-#[unsafe(no_mangle)]
-pub extern "C" fn folgrist_frame_size_bytes(
+pub fn folgrist_frame_size_bytes(
     lsf: u8,
     bit_rate: u32,
     sample_rate: u32,
@@ -74,8 +72,7 @@ pub extern "C" fn folgrist_frame_size_bytes(
 }
 
 // The bits that are fixed for the frame.
-#[unsafe(no_mangle)]
-pub extern "C" fn folgrist_fixed_bit_budget(
+pub fn folgrist_fixed_bit_budget(
     lsf: u8,
     bit_rate: u32,
     sample_rate: u32,
@@ -107,8 +104,7 @@ pub extern "C" fn folgrist_fixed_bit_budget(
 }
 
 // The bits that the frame offers beside `banc` ancillary bits.
-#[unsafe(no_mangle)]
-pub extern "C" fn folgrist_available_data_bits(
+pub fn folgrist_available_data_bits(
     lsf: u8,
     bit_rate: u32,
     sample_rate: u32,
@@ -142,8 +138,7 @@ pub extern "C" fn folgrist_available_data_bits(
 }
 
 // The bits that the signal-to-mask ratios demand.
-#[unsafe(no_mangle)]
-pub extern "C" fn folgrist_demand_bits(
+pub fn folgrist_demand_bits(
     lsf: u8,
     bit_rate: u32,
     sample_rate: u32,
@@ -177,8 +172,7 @@ pub extern "C" fn folgrist_demand_bits(
 }
 
 // The steps of each slot, and the bits left.
-#[unsafe(no_mangle)]
-pub extern "C" fn folgrist_allocate_bits(
+pub fn folgrist_allocate_bits(
     lsf: u8,
     bit_rate: u32,
     sample_rate: u32,

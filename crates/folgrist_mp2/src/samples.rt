@@ -7,8 +7,7 @@ ghost use Rattle.c_answers.specs.Replies.{sample_coded, triplet_coded};
 use c_subband::samples;
 
 // The code of a sample in the class of a number of steps.
-#[unsafe(no_mangle)]
-pub extern "C" fn folgrist_quantize_sample(steps: u32, sample: f64, out: &mut [u32]) -> u32
+pub fn folgrist_quantize_sample(steps: u32, sample: f64, out: &mut [u32]) -> u32
     ensures { Answers
         (answered
         (asked (ltb (length out.old) 1) (some steps))
@@ -19,8 +18,7 @@ pub extern "C" fn folgrist_quantize_sample(steps: u32, sample: f64, out: &mut [u
 }
 
 // The codewords of three consecutive samples in the class of a number of steps.
-#[unsafe(no_mangle)]
-pub extern "C" fn folgrist_write_triplet(steps: u32, a: f64, b: f64, c: f64, out: &mut [u32]) -> u32
+pub fn folgrist_write_triplet(steps: u32, a: f64, b: f64, c: f64, out: &mut [u32]) -> u32
     ensures { Answers
         (answered
         (asked (ltb (length out.old) 5) (some steps))

@@ -8,16 +8,14 @@ ghost use Rattle.c_answers.specs.Replies.{granule_indexed, frame_indexed, scfsi_
 use c_subband::scalefactors;
 
 // The last index whose multiplier is at least `max_abs`.
-#[unsafe(no_mangle)]
-pub extern "C" fn folgrist_pick_scalefactor_index(max_abs: f64) -> u8
+pub fn folgrist_pick_scalefactor_index(max_abs: f64) -> u8
     ensures { PickIs max_abs result }
 {
     encoder_scalefactors::pick_scalefactor_index(max_abs)
 }
 
 // Which of three scalefactor indices are used, and which are transmitted.
-#[unsafe(no_mangle)]
-pub extern "C" fn folgrist_select_scfsi(a: u8, b: u8, c: u8, out: &mut [u8]) -> u32
+pub fn folgrist_select_scfsi(a: u8, b: u8, c: u8, out: &mut [u8]) -> u32
     ensures { Answers
         (answered
         (asked (ltb (length out.old) 9) (some (a ∷ b ∷ c ∷ [])))
@@ -28,8 +26,7 @@ pub extern "C" fn folgrist_select_scfsi(a: u8, b: u8, c: u8, out: &mut [u8]) -> 
 }
 
 // The index of a granule's twelve samples.
-#[unsafe(no_mangle)]
-pub extern "C" fn folgrist_extract_scalefactor_index(samples: &[f64], out: &mut [u8]) -> u32
+pub fn folgrist_extract_scalefactor_index(samples: &[f64], out: &mut [u8]) -> u32
     ensures { Answers
         (answered
         (asked (ltb (length samples.now) 12 || ltb (length out.old) 1) (some samples.now))
@@ -40,8 +37,7 @@ pub extern "C" fn folgrist_extract_scalefactor_index(samples: &[f64], out: &mut 
 }
 
 // The indices of a frame's samples.
-#[unsafe(no_mangle)]
-pub extern "C" fn folgrist_compute_scalefactors(samples: &[f64], limit: u64, out: &mut [u8]) -> u32
+pub fn folgrist_compute_scalefactors(samples: &[f64], limit: u64, out: &mut [u8]) -> u32
     ensures { Answers
         (answered
         (asked (ltb (length samples.now) 1152 || ltb (length out.old) 96) (some samples.now))

@@ -10,8 +10,7 @@ ghost use Rattle.c_side_info_read.specs.Replies.{short, steps_read, scfsi_read, 
 use c_answers::arguments::HeaderNumbers;
 
 // The side information as bytes, and how many of their bits are used.
-#[unsafe(no_mangle)]
-pub extern "C" fn folgrist_write_side_info(
+pub fn folgrist_write_side_info(
     lsf: u8,
     bit_rate: u32,
     sample_rate: u32,
@@ -59,8 +58,7 @@ pub extern "C" fn folgrist_write_side_info(
 }
 
 // The same in its one form: each active slot with the scfsi that sends the fewest indices.
-#[unsafe(no_mangle)]
-pub extern "C" fn folgrist_write_side_info_canonical(
+pub fn folgrist_write_side_info_canonical(
     lsf: u8,
     bit_rate: u32,
     sample_rate: u32,
@@ -108,8 +106,7 @@ pub extern "C" fn folgrist_write_side_info_canonical(
 }
 
 // The record that stands at the front of the bytes, and how many of their bits are used.
-#[unsafe(no_mangle)]
-pub extern "C" fn folgrist_read_side_info(
+pub fn folgrist_read_side_info(
     lsf: u8,
     bit_rate: u32,
     sample_rate: u32,
@@ -167,8 +164,7 @@ pub extern "C" fn folgrist_read_side_info(
 }
 
 // Whether the record hangs together in the header's layout; where it does not, the subband and the channel that it fails at.
-#[unsafe(no_mangle)]
-pub extern "C" fn folgrist_check_record(
+pub fn folgrist_check_record(
     lsf: u8,
     bit_rate: u32,
     sample_rate: u32,

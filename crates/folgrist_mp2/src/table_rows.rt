@@ -9,8 +9,7 @@ ghost use Rattle.c_answers.specs.Replies.{limits_at, steps_found, index_found, c
 use c_subband::table_rows;
 
 // How many subbands a table carries, and the bits of a subband's allocation field.
-#[unsafe(no_mangle)]
-pub extern "C" fn folgrist_table_limits(table: u8, sb: u64, out: &mut [u32]) -> u32
+pub fn folgrist_table_limits(table: u8, sb: u64, out: &mut [u32]) -> u32
     ensures { Answers
         (answered
         (table_meant (ltb (length out.old) 2) table)
@@ -21,8 +20,7 @@ pub extern "C" fn folgrist_table_limits(table: u8, sb: u64, out: &mut [u32]) -> 
 }
 
 // The steps at a place of a subband's row.
-#[unsafe(no_mangle)]
-pub extern "C" fn folgrist_nb_steps(table: u8, sb: u64, index: u32, out: &mut [u32]) -> u32
+pub fn folgrist_nb_steps(table: u8, sb: u64, index: u32, out: &mut [u32]) -> u32
     ensures { Answers
         (answered
         (table_meant (ltb (length out.old) 1) table)
@@ -33,8 +31,7 @@ pub extern "C" fn folgrist_nb_steps(table: u8, sb: u64, index: u32, out: &mut [u
 }
 
 // The place of a subband's row that has these steps.
-#[unsafe(no_mangle)]
-pub extern "C" fn folgrist_allocation_index(table: u8, sb: u64, steps: u32, out: &mut [u32]) -> u32
+pub fn folgrist_allocation_index(table: u8, sb: u64, steps: u32, out: &mut [u32]) -> u32
     ensures { Answers
         (answered
         (table_meant (ltb (length out.old) 1) table)
@@ -45,8 +42,7 @@ pub extern "C" fn folgrist_allocation_index(table: u8, sb: u64, steps: u32, out:
 }
 
 // The class of quantization of a number of steps.
-#[unsafe(no_mangle)]
-pub extern "C" fn folgrist_class_of_quantization(steps: u32, cd: &mut [f64], out: &mut [u32]) -> u32
+pub fn folgrist_class_of_quantization(steps: u32, cd: &mut [f64], out: &mut [u32]) -> u32
     ensures cd_written { Answers
         (answered
         (asked (ltb (length cd.old) 2 || ltb (length out.old) 4) (some steps))
@@ -62,16 +58,14 @@ pub extern "C" fn folgrist_class_of_quantization(steps: u32, cd: &mut [f64], out
 }
 
 // The bits of a subband's 36 samples.
-#[unsafe(no_mangle)]
-pub extern "C" fn folgrist_sample_bits_for(steps: u32) -> u32
+pub fn folgrist_sample_bits_for(steps: u32) -> u32
     ensures { SampleBitsAre steps result }
 {
     quantization::sample_bits_for(steps)
 }
 
 // The signal-to-noise ratio of a number of steps.
-#[unsafe(no_mangle)]
-pub extern "C" fn folgrist_snr_db(steps: u32, out: &mut [f64]) -> u32
+pub fn folgrist_snr_db(steps: u32, out: &mut [f64]) -> u32
     ensures { Answers
         (answered
         (asked (ltb (length out.old) 1) (some steps))

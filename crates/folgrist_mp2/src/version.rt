@@ -9,8 +9,7 @@ const MINOR: u32 = 5;
 const PATCH: u32 = 0;
 
 // The three parts as one number: 10000 * major + 100 * minor + patch.
-#[unsafe(no_mangle)]
-pub extern "C" fn folgrist_version() -> u32
+pub fn folgrist_version() -> u32
     ensures { result ≡ version 1 5 0 }
 {
     10_000 * MAJOR + 100 * MINOR + PATCH

@@ -1,0 +1,50 @@
+// The functions of scalefactors: indices of samples, and which of a slot's three are used and transmitted.
+ghost use Rattle.std.specs.Prelude.{◌||◌, [], ◌∷◌, ltb, length};
+ghost use Rattle.std.proofs.Math.Option.{some};
+ghost use Rattle.encoder_scalefactors.specs.Indices.{PickIs};
+ghost use Rattle.c_answers.specs.Answers.{asked, answered, Answers};
+ghost use Rattle.c_answers.specs.Replies.{granule_indexed, frame_indexed, scfsi_selected};
+
+// The last index whose multiplier is at least `max_abs`.
+#[unsafe(no_mangle)]
+pub extern "C" fn folgrist_pick_scalefactor_index(max_abs: f64) -> u8
+    ensures { PickIs max_abs result }
+{
+    folgrist_mp2::scalefactors::folgrist_pick_scalefactor_index(max_abs)
+}
+
+// Which of three scalefactor indices are used, and which are transmitted.
+#[unsafe(no_mangle)]
+pub extern "C" fn folgrist_select_scfsi(a: u8, b: u8, c: u8, out: &mut [u8]) -> u32
+    ensures { Answers
+        (answered
+        (asked (ltb (length out.old) 9) (some (a ∷ b ∷ c ∷ [])))
+        scfsi_selected)
+        out.old result out.new }
+{
+    folgrist_mp2::scalefactors::folgrist_select_scfsi(a, b, c, out)
+}
+
+// The index of a granule's twelve samples.
+#[unsafe(no_mangle)]
+pub extern "C" fn folgrist_extract_scalefactor_index(samples: &[f64], out: &mut [u8]) -> u32
+    ensures { Answers
+        (answered
+        (asked (ltb (length samples.now) 12 || ltb (length out.old) 1) (some samples.now))
+        granule_indexed)
+        out.old result out.new }
+{
+    folgrist_mp2::scalefactors::folgrist_extract_scalefactor_index(samples, out)
+}
+
+// The indices of a frame's samples.
+#[unsafe(no_mangle)]
+pub extern "C" fn folgrist_compute_scalefactors(samples: &[f64], limit: u64, out: &mut [u8]) -> u32
+    ensures { Answers
+        (answered
+        (asked (ltb (length samples.now) 1152 || ltb (length out.old) 96) (some samples.now))
+        (frame_indexed limit))
+        out.old result out.new }
+{
+    folgrist_mp2::scalefactors::folgrist_compute_scalefactors(samples, limit, out)
+}
