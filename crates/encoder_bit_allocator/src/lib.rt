@@ -1,4 +1,6 @@
 // The bit allocation of ISO/IEC 11172-3 C.1.5.2.7: how many steps each slot of a frame gets.
+#![tactic(auto)]
+
 ghost use Rattle.std.specs.Prelude.{◌≡◌, ◌≤◌};
 ghost use Rattle.encoder_bit_budget.specs.Budget.{plain, fixed_in};
 ghost use Rattle.encoder_bit_allocator.specs.Allocation.{accepted, refused, short, AllocationIs};
