@@ -1,4 +1,6 @@
 // The page that shows the side information read from a frame, as lines of text.
+#![tactic(auto)]
+
 mod refusal;
 
 ghost use Rattle.std.specs.Prelude.{◌≡◌, [], ◌<◌, get_or};
