@@ -1,4 +1,6 @@
 // How a call from C is answered: what its arguments mean, the parts of the answers that it takes, and how they are written.
+#![tactic(auto)]
+
 pub mod arguments;
 pub mod parts;
 pub mod writing;
