@@ -1,4 +1,6 @@
 // The writer that gives a frame's side information one form: each active slot is sent with the scfsi that needs the fewest scalefactor indices.
+#![tactic(auto)]
+
 ghost use Rattle.std.specs.Prelude.{◌≡◌, []};
 ghost use Rattle.audio_data.specs.Scfsi.{three};
 ghost use Rattle.side_info.specs.SideInfo.{side_info};
