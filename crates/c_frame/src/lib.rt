@@ -1,5 +1,7 @@
 // The functions of the C library that take a header, as seven numbers. The exported function of the same name hands over the numbers and the slices
 // under the same contract; here the slices' lengths are asked about first (98), then what the numbers mean (14), then what the function itself asks.
+#![tactic(auto)]
+
 ghost use Rattle.std.specs.Prelude.{◌≡◌, ◌||◌, ltb, length};
 ghost use Rattle.encoder_bit_budget.specs.Budget.{budget_in};
 ghost use Rattle.c_answers.specs.Answers.{asked, answered, Answers};
