@@ -34,10 +34,7 @@ use Rattle.record_check.specs.Check.{check_of}
 use Rattle.canonical_form.specs.Fewest.{chosen}
 use Rattle.canonical_form.specs.Canonical.{canonical_of}
 use Rattle.worked_cases.specs.Cases.{cases, any, allocation, allocated, mono, idle, answer_to, Hold}
-use Rattle.worked_cases.proofs.count.Statement.{statement}
-use Rattle.worked_cases.proofs.count.Tie as tie
-
--- ---- a frame that the fixed and the ancillary bits fill
+use Rattle.worked_cases.proofs.count.Goals as goal
 
 -- where its fields are
 abbrev laid : Layout
@@ -59,8 +56,6 @@ filled smr =
     let n = end_untouched (rules smr) 0 (dear smr) in
     ap₂ (λ (places : List ℕ) (left : ℕ). allocated 0 (steps_of laid places) left 0 0 0) n.0 n.1
 
--- ---- the table
-
 -- the cases before and behind it: antt computes the answers
 first-case : Hold (take 1 cases)
 unfolding cases Hold answer_to one_of on_ladder ladder lsf_ladder table_of nbal_of layout_of fields_of budget_of
@@ -74,9 +69,10 @@ holds : Hold cases
 unfolding cases Hold
 holds smr = ap₂ ◌++◌ (first-case smr) (ap₂ ◌∷◌ (filled smr) (other-cases smr))
 
-returns : tie.Need-returns
+-- ---- a frame that the fixed and the ancillary bits fill
+
+-- ---- the table
+
+pub returns : goal.returns
 unfolding cases
 returns c = record { whole = refl; hold = holds }
-
-pub count_spec : {M : Type 1} → statement M
-count_spec = tie.close (tie.spec returns)
