@@ -1,6 +1,6 @@
 -- The bits that a cursor has ahead, and what it takes of them.
 -- For the contracts of private functions alone: nothing that a caller has to believe stands here.
-use Rattle.std.specs.Prelude.{ℕ, ◌+◌, ◌/◌, ◌%◌, ◌^◌, ◌≤◌, ◌<◌, ◌≡◌, Bool, List, ◌++◌, length, drop}
+use Rattle.std.specs.Prelude.{ℕ, ◌/◌, ◌%◌, ◌^◌, ◌≤◌, ◌<◌, ◌≡◌, Bool, List, ◌++◌, length, drop}
 use Rattle.bit_string.specs.Bits.{bits_of, unpacked}
 use Rattle.side_info_reading.specs.Taken.{Taken, got, refused}
 use Rattle.side_info_reader.specs.declared.cursor.Cursor.{Cursor}

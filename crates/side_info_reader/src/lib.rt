@@ -1,4 +1,6 @@
 // The reader of a frame's side information (ISO/IEC 11172-3 2.4.1.6): its allocation fields, scfsi and scalefactors from bits.
+#![tactic(auto)]
+
 ghost use Rattle.std.specs.Prelude.{◌≡◌, ◌≤◌, ◌<◌, length};
 ghost use Rattle.active_slots.specs.Active.{SlotsIn, listed, ActiveAre};
 ghost use Rattle.audio_data.specs.Scfsi.{three};

@@ -1,0 +1,14 @@
+-- `side_info_reader::read_side_info` meets its contract: the budget's answer decides which law gives the answer.
+use mathlib.Core.Path.{sym, ap, ◌∙◌}
+use Rattle.encoder_bit_budget.specs.Budget.{budget_in}
+use Rattle.side_info_reading.proofs.ReadLaws.{promises}
+use Rattle.side_info_reader.proofs.AnswerLaws.{from_refused, from_accepted}
+use Rattle.side_info_reader.proofs.read_side_info.Goals as goal
+
+pub returns-in-Ok : goal.returns-in-Ok
+returns-in-Ok c =
+    promises _ _ _ (from_accepted _ _ c.in-Ok.b _ _ (ap budget_in (sym c.in-Ok.is) ∙ c.fixed_bit_budget-budget.ensures.whole) c.layout.ensures c.read_under.ensures)
+
+pub returns-in-Refused : goal.returns-in-Refused
+returns-in-Refused c =
+    promises _ _ _ (from_refused _ _ c.in-Refused.error _ _ (ap budget_in (sym c.in-Refused.is) ∙ c.fixed_bit_budget-budget.ensures.whole) c.number.ensures c.refused.ensures)
