@@ -1,4 +1,6 @@
 // The planner's page: whether a frame carries a signal, as lines of text.
+#![tactic(auto)]
+
 mod page;
 mod rows;
 
