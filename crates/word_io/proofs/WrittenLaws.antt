@@ -1,15 +1,14 @@
--- Counting the lines of an answer: every one is there until the first that is not.
-use mathlib.Core.Path.{◌≡◌, sym, ap, ◌∙◌, subst}
-use mathlib.Core.Bool.{Bool, true, false, true≢false}
-use mathlib.Core.List.{List}
-use Prim.Native.Nat.{ℕ, ◌+◌, ◌≤◌, ◌<◌}
-use native.Mathlib.Decide.{dec_lt}
-use native.Mathlib.Omega.{arith}
-use lib.Dec.{T, ltb, ltb→lt}
-use lib.ListN.{length, take}
+-- Counting the lines of an answer: every one is there until the first that is not; and the text of those that were written.
+use Rattle.std.proofs.Common.{◌≡◌, refl, sym, ap, ◌∙◌, subst, Bool, true, false, true≢false, List, [], ◌∷◌, ◌++◌, append_assoc, append-nil, ℕ, ◌+◌, ◌≤◌, ◌<◌, arith, T, ltb, ltb→lt, length, take, drop, get_or, take-add, ltb-false}
+use Rattle.std.proofs.Math.Decide.{dec_lt}
+use Rattle.std.proofs.Math.ListN.{drop_of_length-le}
+use Rattle.std.proofs.Math.Seq.{drop-cons}
 use borrow.Author.Tests.{lt-ltb}
+use Rattle.std.specs.Prelude.{None, Some, Option, Ok, Err, Result, IsOk, OnOk}
+use Rattle.std.specs.Io.KnownBytes.{Appends}
+use Rattle.text_line.specs.Line.{fed}
 use Rattle.word_io.specs.Words.{InputRead}
-use Rattle.word_io.specs.Written.{lines_in, Written}
+use Rattle.word_io.specs.Written.{lines_in, page_text, Written}
 
 -- as many lines are there
 unfoldable pub Counted : List (List ℕ) → ℕ → Type 0
@@ -35,6 +34,80 @@ module _ (page : List (List ℕ)) where
   pub counted_out : (n : ℕ) → 18446744073709551615 ≤ n → n ≤ 18446744073709551615 → Counted page n → n ≡ lines_in page
   unfolding Counted lines_in
   counted_out n l m c = omega arith
+
+-- ---- the text of what was written
+
+page_text-append : (a b : List (List ℕ)) → page_text (a ++ b) ≡ page_text a ++ page_text b
+unfolding page_text
+page_text-append [] b = refl
+page_text-append (l ∷ ls) b = ap (λ (t : List ℕ). fed l ++ t) (page_text-append ls b) ∙ sym (append_assoc (fed l) (page_text ls) (page_text b))
+
+-- nothing more
+pub same_text : (held : Option (List ℕ)) → Appends held held []
+same_text None = tt
+same_text (Some t) = sym (append-nil t)
+
+-- one text behind the other
+joined : (a b c : Option (List ℕ)) (s t : List ℕ) → Appends a b s → Appends b c t → Appends a c (s ++ t)
+joined None b c s t p q = tt
+joined (Some x) None c s t p q = absurd p
+joined (Some x) (Some y) None s t p q = absurd q
+joined (Some x) (Some y) (Some z) s t p q = q ∙ ap (λ (u : List ℕ). u ++ t) p ∙ append_assoc x s t
+
+pub no_text : (a : Option (List ℕ)) → Appends a a (page_text [])
+unfolding page_text
+no_text a = same_text a
+
+-- behind the last line
+pub none_written : (page : List (List ℕ)) (a : Option (List ℕ)) (n : ℕ) (there : Bool) → there ≡ ltb n (length page) → there ≡ false
+    → Appends a a (page_text (take 1 (drop n page)))
+unfolding page_text
+none_written page a n there e h =
+    let l = ltb-false n (length page) (sym e ∙ h) in
+    subst (Appends a a) (sym (ap (λ (r : List (List ℕ)). page_text (take 1 r)) (drop_of_length-le page l))) (same_text a)
+
+module _ (page : List (List ℕ)) (a b : Option (List ℕ)) where
+  -- the line of a number that is there
+  pub line_written : (n : ℕ) (there : Bool) (t : List ℕ) → there ≡ ltb n (length page) → there ≡ true → t ≡ fed (get_or page n []) → Appends a b t
+      → Appends a b (page_text (take 1 (drop n page)))
+  unfolding page_text
+  line_written n there t e h f p =
+      let l = ltb→lt n (length page) (subst T (sym h ∙ e) tt) in
+      let one : page_text (take 1 (drop n page)) ≡ t =
+      ap (λ (r : List (List ℕ)). page_text (take 1 r)) (drop-cons page n [] l) ∙ append-nil (fed (get_or page n [])) ∙ sym f in
+      subst (Appends a b) (sym one) p
+
+  pub more_written : (c : Option (List ℕ)) (n : ℕ) → Appends a b (page_text (take n page)) → Appends b c (page_text (take 1 (drop n page))) → Appends a c (page_text (take (n + 1) page))
+  more_written c n p q =
+      subst (Appends a c) (sym (ap page_text (take-add n 1 page) ∙ page_text-append (take n page) (take 1 (drop n page)))) (joined a b c _ _ p q)
+
+  -- behind the last line nothing more is written
+  pub all_written_of : (c : Option (List ℕ)) (n : ℕ) (there : Bool) → there ≡ ltb n (length page) → there ≡ false
+      → Appends a b (page_text (take n page)) → Appends b c (page_text (take 1 (drop n page))) → Appends a c (page_text (take n page))
+  unfolding page_text
+  all_written_of c n there e h p q =
+      let l = ltb-false n (length page) (sym e ∙ h) in
+      let none : page_text (take 1 (drop n page)) ≡ [] = ap (λ (r : List (List ℕ)). page_text (take 1 r)) (drop_of_length-le page l) in
+      subst (Appends a c) (append-nil (page_text (take n page))) (joined a b c _ [] p (subst (Appends b c) none q))
+
+-- what always holds
+pub on_ok : {X E P : Type 0} (r : Result X E) → P → OnOk r P
+on_ok (Ok x) p = p
+on_ok (Err e) p = tt
+
+-- what holds where nothing failed so far, and then nothing failed
+pub so_far : {X E P Q R : Type 0} (old new : Result X E) → OnOk old P → OnOk new (IsOk old) → OnOk new Q → (P → Q → R) → OnOk new R
+so_far old (Err e) p k q f = tt
+so_far (Ok x) (Ok y) p k q f = f p q
+so_far (Err e) (Ok y) p k q f = absurd (true≢false (sym k))
+
+-- nothing failed before
+pub before_too : {X E : Type 0} (first old new : Result X E) → OnOk old (IsOk first) → OnOk new (IsOk old) → OnOk new (IsOk first)
+before_too first old new p k = so_far old new p k k (λ f o. f)
+
+pub at_first : {X E : Type 0} (r : Result X E) → OnOk r (IsOk r)
+at_first (Ok x) = refl
+at_first (Err e) = tt
 
 -- the words and the input that were read are those of the answer
 pub all_written : (answer : List ℕ → List ℕ → List (List ℕ)) (new inputOld inputNew : List ℕ) (size n r : ℕ) → InputRead (take size new) inputOld inputNew n

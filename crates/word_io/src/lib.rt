@@ -1,7 +1,8 @@
 // What the programs whose words give a frame header read: the words of the command line, and standard input.
 #![tactic(auto)]
 
-ghost use Rattle.std.specs.Prelude.{◌≤◌, length};
+ghost use Rattle.std.specs.Prelude.{◌<◌, ◌≤◌, length, take, IsOk, OnOk};
+ghost use Rattle.std.specs.Io.KnownBytes.{Consumes, IsAtEnd};
 ghost use Rattle.word_io.specs.Words.{WordEnded, WordRead, WordsRead, InputRead};
 
 use std::env::{Env, FillError};
@@ -55,7 +56,8 @@ fn end_word(words: &mut [u8], end: usize) -> usize
     }
 }
 
-// Reads the input, where the words are such that it is asked for, and answers how many bytes it takes.
+// Reads the input, where the words are such that it is asked for, and answers how many bytes it takes. A read that fails ends the input, and its error is
+// the new `outcome`.
 pub fn read_input(
     rt: &impl Input,
     words: &[u8],
@@ -72,8 +74,12 @@ pub fn read_input(
 }
 
 // Reads until the buffer is full, the input ends or a read fails, and answers how many bytes it takes.
-fn read_full(from: &mut impl Read, input: &mut [u8], outcome: &mut io::Result<()>) -> usize
-    ensures { result ≤ length input.new }
+// Where no read failed, the reader is at its end or the buffer is full.
+fn read_full<R: Read>(from: &mut R, input: &mut [u8], outcome: &mut io::Result<()>) -> usize
+    ensures within { result ≤ length input.new }
+    ensures kept { OnOk outcome.new (IsOk outcome.old) }
+    ensures bytes { Consumes (R.remaining from.old) (R.remaining from.new) (take result input.new) }
+    ensures end { OnOk outcome.new (result < length input.new → IsAtEnd (R.remaining from.new)) }
 {
     let mut at: usize = 0;
     while at < input.len() {

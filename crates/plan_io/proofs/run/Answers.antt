@@ -5,4 +5,4 @@ use Rattle.plan_io.proofs.run.Goals as goal
 
 pub returns : goal.returns
 returns g c =
-    all_written plan_of c.read_words-size.new.words _ c.read_input-count.new.input c.read_words-size.result c.read_input-count.result _ c.read_input-count.ensures c.write_plan.ensures
+    all_written plan_of c.read_words-size.new.words _ c.read_input-count.new.input c.read_words-size.result c.read_input-count.result _ c.read_input-count.ensures c.write_plan.ensures.lines

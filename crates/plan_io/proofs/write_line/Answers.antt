@@ -5,6 +5,7 @@ use lib.ListN.{length}
 use lib.Seq.{length-take-le}
 use borrow.Author.Rules.{rules}
 use Rattle.text_line.specs.Line.{fed}
+use Rattle.word_io.proofs.WrittenLaws.{line_written, none_written, on_ok}
 use Rattle.plan_io.proofs.write_line.Goals as goal
 
 pub slice_bounds-bytes-end : goal.slice_bounds-bytes-end
@@ -20,3 +21,13 @@ slice_bounds-write_text-end g c =
 pub write_text-requires : goal.write_text-requires
 write_text-requires g c =
     c.ended-ended.ensures.whole ∙ ap fed c.plan_line-plan.ensures.line
+
+pub returns-in_default-clause-text : goal.returns-in_default-clause-text
+returns-in_default-clause-text g c =
+    let p = c.plan_line-plan.ensures in
+    let e = c.ended-ended.ensures.whole ∙ ap fed p.line in
+    on_ok _ (line_written _ _ _ c.args.n _ _ p.there c.if-plan.true e (c.in_default.ensures))
+
+pub returns-else-plan-clause-text : goal.returns-else-plan-clause-text
+returns-else-plan-clause-text g c =
+    on_ok _ (none_written _ _ c.args.n _ c.plan_line-plan.ensures.there c.if-plan.false)
