@@ -19,19 +19,27 @@ fn frame(lsf: bool, sample_rate: u32, bit_rate: u32, mode: Mode) -> FrameHeader 
 }
 
 pub fn accepted(rt: &impl Print) -> io::Result<()> {
-    println!(rt; "no CRC, no padding: answer, table (1 to 5: B2a, B2b, B2c, B2d, B1Lsf), bytes, fixed bits, bits offered")?;
+    println!(rt;
+        "no CRC, no padding: answer, table (1 to 5: B2a, B2b, B2c, B2d, B1Lsf), bytes, fixed bits, bits offered"
+    )?;
     let stereo = answers(frame(false, 44_100, 192_000, Mode::Stereo));
-    show::numbers(rt, "44100 Hz, stereo, 192000 bit/s:",
+    show::numbers(
+        rt,
+        "44100 Hz, stereo, 192000 bit/s:",
         &[0, 2, 626, 220, 4788],
         &stereo,
     )?;
     let joint = answers(frame(false, 44_100, 192_000, Mode::JointStereo));
-    show::numbers(rt, "in joint stereo with bound 4:",
+    show::numbers(
+        rt,
+        "in joint stereo with bound 4:",
         &[0, 2, 626, 142, 4866],
         &joint,
     )?;
     let mono = answers(frame(false, 48_000, 64_000, Mode::SingleChannel));
-    show::numbers(rt, "48000 Hz, single channel, 64000 bit/s:",
+    show::numbers(
+        rt,
+        "48000 Hz, single channel, 64000 bit/s:",
         &[0, 1, 192, 120, 1416],
         &mono,
     )
@@ -41,17 +49,23 @@ pub fn refused(rt: &impl Print) -> io::Result<()> {
     let rounded = answers(frame(false, 48_000, 64_999, Mode::SingleChannel));
     show::numbers(rt, "64999 bit/s:", &[16, 1, 194, 0, 0], &rounded)?;
     let odd = answers(frame(false, 44_100, 193_000, Mode::Stereo));
-    show::numbers(rt, "44100 Hz, stereo, 193000 bit/s:",
+    show::numbers(
+        rt,
+        "44100 Hz, stereo, 193000 bit/s:",
         &[16, 0, 630, 0, 0],
         &odd,
     )?;
     let high = answers(frame(false, 44_100, 384_000, Mode::SingleChannel));
-    show::numbers(rt, "44100 Hz, single channel, 384000 bit/s:",
+    show::numbers(
+        rt,
+        "44100 Hz, single channel, 384000 bit/s:",
         &[1, 0, 1253, 0, 0],
         &high,
     )?;
     let lsf = answers(frame(true, 0, 32_000, Mode::SingleChannel));
-    show::numbers(rt, "0 Hz, single channel, 32000 bit/s, LSF:",
+    show::numbers(
+        rt,
+        "0 Hz, single channel, 32000 bit/s, LSF:",
         &[2, 5, 0, 0, 0],
         &lsf,
     )?;
@@ -101,7 +115,9 @@ fn not_below_zero(bits: i64) -> u64 {
 
 pub fn demands(rt: &impl Print) -> io::Result<()> {
     let answered = [demand(0.0), demand(7.0), demand(7.5)];
-    show::numbers(rt, "demand on B2c, the first subband at 0.0, 7.0 and 7.5 dB:",
+    show::numbers(
+        rt,
+        "demand on B2c, the first subband at 0.0, 7.0 and 7.5 dB:",
         &[0, 80, 104],
         &answered,
     )

@@ -5,7 +5,9 @@ use std::io;
 
 pub fn scalefactors(rt: &impl Print) -> io::Result<()> {
     let answered = [index(0.0), index(1.0), index(2.0), index(3.0)];
-    show::numbers(rt, "scalefactor index of the maxima 0.0, 1.0, 2.0 and 3.0:",
+    show::numbers(
+        rt,
+        "scalefactor index of the maxima 0.0, 1.0, 2.0 and 3.0:",
         &[62, 3, 0, 0],
         &answered,
     )
@@ -16,7 +18,9 @@ fn index(max_abs: f64) -> u64 {
 }
 
 pub fn scfsi(rt: &impl Print) -> io::Result<()> {
-    show::numbers(rt, "scalefactor indices used for 10, 12, 11:",
+    show::numbers(
+        rt,
+        "scalefactor indices used for 10, 12, 11:",
         &[10, 10, 10],
         &used([10, 12, 11]),
     )?;
@@ -37,7 +41,9 @@ pub fn samples(rt: &impl Print) -> io::Result<()> {
         code(3, 1.0),
         codeword_of_ones(),
     ];
-    show::numbers(rt, "3 steps: codes of -1, 0 and 1, codeword of three ones:",
+    show::numbers(
+        rt,
+        "3 steps: codes of -1, 0 and 1, codeword of three ones:",
         &[0, 1, 2, 26],
         &answered,
     )?;
