@@ -1,6 +1,7 @@
 #!/usr/bin/env python3
-"""Holds the declarations of include/folgrist_mp2.h against the functions that crates/folgrist_mp2 exports: names, parameters in their order,
-types and what is returned. Prints nothing where they are the same, else the first that differs, with exit status 1."""
+"""Holds the declarations of include/folgrist_mp2.h against the functions that crates/folgrist_mp2_c exports, and against those of crates/folgrist_mp2
+that these call: names, parameters in their order, types and what is returned. Prints nothing where they are the same, else the first that differs, with exit
+status 1."""
 
 import pathlib
 import re
@@ -35,21 +36,23 @@ def declared():
     return functions
 
 
-def exported():
+def in_source(crate, head):
     functions = {}
-    for file in sorted((ROOT / "crates/folgrist_mp2/src").glob("*.rt")):
-        for name, inside, result in re.findall(r'pub extern "C" fn (folgrist_\w+)\(([^()]*)\)\s*->\s*(\w+)', file.read_text()):
+    for file in sorted((ROOT / "crates" / crate / "src").glob("*.rt")):
+        for name, inside, result in re.findall(head + r" (folgrist_\w+)\(([^()]*)\)\s*->\s*(\w+)", file.read_text()):
             parameters = [p.split(":") for p in inside.split(",") if p.strip()]
             functions[name] = ([(n.strip(), " ".join(t.split())) for n, t in parameters], result)
     return functions
 
 
 def main():
-    header, source = declared(), exported()
-    for name in sorted(set(header) | set(source)):
-        if header.get(name) != source.get(name):
-            print(f"{name}: the header declares {header.get(name)}, the source has {source.get(name)}", file=sys.stderr)
-            return 1
+    header = declared()
+    for crate, head in (("folgrist_mp2_c", 'pub extern "C" fn'), ("folgrist_mp2", "pub fn")):
+        source = in_source(crate, head)
+        for name in sorted(set(header) | set(source)):
+            if header.get(name) != source.get(name):
+                print(f"{name}: the header declares {header.get(name)}, {crate} has {source.get(name)}", file=sys.stderr)
+                return 1
     return 0
 
 

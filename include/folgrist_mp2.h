@@ -2,8 +2,8 @@
  * Folgrist: the decisions of an MPEG Audio Layer II encoder (ISO/IEC 11172-3, ISO/IEC 13818-3), from subband samples to sample codes, and
  * the side information of its frames, written, read and checked.
  *
- * Link with libfolgrist_mp2.a (`rt staticlib folgrist_mp2`). The library keeps no state and uses no heap; it calls nothing but memcpy and
- * memset, and takes some 20 KB of stack. Calls from several threads do not disturb one another.
+ * Link with libfolgrist_mp2.a (`bash examples/library.sh` builds it in target/staticlib). The library keeps no state and uses no heap; it calls
+ * nothing but memcpy and memset, and takes some 20 KB of stack. Calls from several threads do not disturb one another.
  *
  * Floating point. Call it in the default environment: rounding to nearest, subnormals neither flushed nor read as zero (no FTZ, no DAZ).
  * Any double may be handed in, NaN and infinities included.

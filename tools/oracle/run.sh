@@ -56,13 +56,13 @@ there() {
 }
 case ${words[0]} in
 compare | selfcheck | bench | beside)
-    there "$archive" "make it by 'rt staticlib folgrist_mp2', or name one by --archive PATH"
+    there "$archive" "make it by 'bash examples/library.sh' at the top of the repository, or name one by --archive PATH"
     ;;
 esac
 if [ "${words[0]}" = beside ]; then
     [ "${#words[@]}" -eq 2 ] || usage
     other=${words[1]}
-    there "$other" "name one that 'rt staticlib folgrist_mp2' made of another tree"
+    there "$other" "name one that 'bash examples/library.sh' made of another tree"
     words=(beside)
     shared_objects "$other" other
     shared_objects "$archive" library

@@ -4,7 +4,7 @@ time, runs the built program on the line, and compares what it prints with what 
 
     python3 tools/oracle/spoil.py [PROGRAM [INPUT [OUTPUT]]]
 
-PROGRAM is target/bin/replay (`rt check replay` builds it), INPUT crates/replay/stdin, OUTPUT crates/replay/stdout.
+PROGRAM is crates/replay/out/replay (`rt run </dev/null` in crates/replay builds it), INPUT crates/replay/stdin, OUTPUT crates/replay/stdout.
 One line is printed for each kind; the exit status is 1 where a change goes unnoticed."""
 
 import pathlib
@@ -48,7 +48,7 @@ def run(program, lines):
 
 
 def main(words):
-    files = [ROOT / "target/bin/replay", ROOT / "crates/replay/stdin", ROOT / "crates/replay/stdout"]
+    files = [ROOT / "crates/replay/out/replay", ROOT / "crates/replay/stdin", ROOT / "crates/replay/stdout"]
     program, source, wanted = [pathlib.Path(word) for word in words] + files[len(words):]
     lines = source.read_text().splitlines()
     output = wanted.read_text().splitlines()
