@@ -1,4 +1,6 @@
 // The program that shows side information: what it prints for the words of its command line and its input, line by line.
+#![tactic(auto)]
+
 mod notes;
 
 ghost use Rattle.text_line.specs.Page.{LineIs};
