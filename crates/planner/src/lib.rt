@@ -1,4 +1,6 @@
 // The planner: what it prints for the words of its command line and its input, line by line.
+#![tactic(auto)]
+
 mod notes;
 
 ghost use Rattle.std.specs.Prelude.{◌≡◌};
