@@ -9,8 +9,7 @@ loop-n-init g c = (search rules, none_yet _, at_first _, on_ok _ (no_text _))
 pub loop-n-preserved : goal.loop-n-preserved
 loop-n-preserved g c =
     let i = c.loop-n.invariant in
-    let w = c.write_line-there.ensures in
-    (
+    let w = c.write_line-there.ensures in (
       search rules,
       one_more _ _ _ w.there c.if-there.true,
       before_too _ _ _ i.2 w.kept,
