@@ -15,7 +15,7 @@ use Rattle.side_info.specs.SideInfo.{SideInfo, side_info, allocation_field_bits,
 use Rattle.side_info_writer.specs.declared.FieldPlace.{FieldPlace}
 use Rattle.side_info_writer.specs.declared.FieldPlace.TheVariants as Place
 use Rattle.side_info_writer.specs.declared.Allocated.{Allocated}
-use Rattle.side_info_writer.specs.declared.Allocated.TheVariants as All
+use Rattle.side_info_writer.specs.declared.Allocated.TheVariants as Outcome
 use Rattle.side_info_writer.specs.declared.WrittenSideInfo.{WrittenSideInfo}
 use Rattle.side_info_writer.specs.declared.pen.Pen.{Pen}
 use Rattle.side_info_writer.specs.Pen.{Writes, Wrote}
@@ -53,10 +53,10 @@ abbrev pub steps_alone : List ℕ → SideInfo
 steps_alone steps = side_info steps [] []
 
 abbrev pub AllocatedIs : Layout → List ℕ → List ℕ → List ℕ → Allocated → Type 0
-AllocatedIs l steps old new (All.Done p) =
+AllocatedIs l steps old new (Outcome.Done p) =
     Passed (flat_map (field_asked l (steps_alone steps)) (fields_of l))
     × Wrote (record { at = 0; held = 0; count = 0 }) old (flat_map (allocation_field_bits l (steps_alone steps)) (fields_of l)) p new
-AllocatedIs l steps old new (All.Refused n) = Stopped (flat_map (field_asked l (steps_alone steps)) (fields_of l)) n
+AllocatedIs l steps old new (Outcome.Refused n) = Stopped (flat_map (field_asked l (steps_alone steps)) (fields_of l)) n
 
 -- ---- the indices
 
