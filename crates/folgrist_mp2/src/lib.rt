@@ -2,6 +2,8 @@
 // exported functions by subject. A body is one call, mostly of the function of the same name in `c_frame` (with a header), `c_side_info` and `c_side_info_read` (with a
 // record besides) or `c_subband` (without either), which has the same contract and does the work: each edit in must-fail/ proves this crate again, so nothing is
 // asked, told apart or written here.
+#![tactic(auto)]
+
 pub mod frame;
 pub mod samples;
 pub mod scalefactors;
