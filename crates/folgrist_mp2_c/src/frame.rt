@@ -24,7 +24,16 @@ pub extern "C" fn folgrist_select_table(
         table_selected)
         out.old result out.new }
 {
-    folgrist_mp2::frame::folgrist_select_table(lsf, bit_rate, sample_rate, padding, protection_bit, mode, mode_extension, out)
+    folgrist_mp2::frame::folgrist_select_table(
+        lsf,
+        bit_rate,
+        sample_rate,
+        padding,
+        protection_bit,
+        mode,
+        mode_extension,
+        out,
+    )
 }
 
 // The length of the frame in bytes.
@@ -46,7 +55,16 @@ pub extern "C" fn folgrist_frame_size_bytes(
         frame_sized)
         out.old result out.new }
 {
-    folgrist_mp2::frame::folgrist_frame_size_bytes(lsf, bit_rate, sample_rate, padding, protection_bit, mode, mode_extension, out)
+    folgrist_mp2::frame::folgrist_frame_size_bytes(
+        lsf,
+        bit_rate,
+        sample_rate,
+        padding,
+        protection_bit,
+        mode,
+        mode_extension,
+        out,
+    )
 }
 
 // The bits that are fixed for the frame.
@@ -68,7 +86,16 @@ pub extern "C" fn folgrist_fixed_bit_budget(
         budget_fixed)
         out.old result out.new }
 {
-    folgrist_mp2::frame::folgrist_fixed_bit_budget(lsf, bit_rate, sample_rate, padding, protection_bit, mode, mode_extension, out)
+    folgrist_mp2::frame::folgrist_fixed_bit_budget(
+        lsf,
+        bit_rate,
+        sample_rate,
+        padding,
+        protection_bit,
+        mode,
+        mode_extension,
+        out,
+    )
 }
 
 // The bits that the frame offers beside `banc` ancillary bits.
@@ -91,7 +118,17 @@ pub extern "C" fn folgrist_available_data_bits(
         (bits_available banc))
         out.old result out.new }
 {
-    folgrist_mp2::frame::folgrist_available_data_bits(lsf, bit_rate, sample_rate, padding, protection_bit, mode, mode_extension, banc, out)
+    folgrist_mp2::frame::folgrist_available_data_bits(
+        lsf,
+        bit_rate,
+        sample_rate,
+        padding,
+        protection_bit,
+        mode,
+        mode_extension,
+        banc,
+        out,
+    )
 }
 
 // The bits that the signal-to-mask ratios demand.
@@ -114,7 +151,17 @@ pub extern "C" fn folgrist_demand_bits(
         (bits_demanded smr_db.now))
         out.old result out.new }
 {
-    folgrist_mp2::frame::folgrist_demand_bits(lsf, bit_rate, sample_rate, padding, protection_bit, mode, mode_extension, smr_db, out)
+    folgrist_mp2::frame::folgrist_demand_bits(
+        lsf,
+        bit_rate,
+        sample_rate,
+        padding,
+        protection_bit,
+        mode,
+        mode_extension,
+        smr_db,
+        out,
+    )
 }
 
 // The steps of each slot, and the bits left.
@@ -145,5 +192,17 @@ pub extern "C" fn folgrist_allocate_bits(
         (bits_allocated smr_db.now banc))
         out.old result out.new }
 {
-    folgrist_mp2::frame::folgrist_allocate_bits(lsf, bit_rate, sample_rate, padding, protection_bit, mode, mode_extension, banc, smr_db, steps, out)
+    folgrist_mp2::frame::folgrist_allocate_bits(
+        lsf,
+        bit_rate,
+        sample_rate,
+        padding,
+        protection_bit,
+        mode,
+        mode_extension,
+        banc,
+        smr_db,
+        steps,
+        out,
+    )
 }

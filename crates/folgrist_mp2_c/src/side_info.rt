@@ -38,7 +38,20 @@ pub extern "C" fn folgrist_write_side_info(
         bits_written)
         out.old result out.new }
 {
-    folgrist_mp2::side_info::folgrist_write_side_info(lsf, bit_rate, sample_rate, padding, protection_bit, mode, mode_extension, steps, scfsi, index, bytes, out)
+    folgrist_mp2::side_info::folgrist_write_side_info(
+        lsf,
+        bit_rate,
+        sample_rate,
+        padding,
+        protection_bit,
+        mode,
+        mode_extension,
+        steps,
+        scfsi,
+        index,
+        bytes,
+        out,
+    )
 }
 
 // The same in its one form: each active slot with the scfsi that sends the fewest indices.
@@ -72,7 +85,20 @@ pub extern "C" fn folgrist_write_side_info_canonical(
         bits_canonical)
         out.old result out.new }
 {
-    folgrist_mp2::side_info::folgrist_write_side_info_canonical(lsf, bit_rate, sample_rate, padding, protection_bit, mode, mode_extension, steps, scfsi, index, bytes, out)
+    folgrist_mp2::side_info::folgrist_write_side_info_canonical(
+        lsf,
+        bit_rate,
+        sample_rate,
+        padding,
+        protection_bit,
+        mode,
+        mode_extension,
+        steps,
+        scfsi,
+        index,
+        bytes,
+        out,
+    )
 }
 
 // The record that stands at the front of the bytes, and how many of their bits are used.
@@ -116,7 +142,20 @@ pub extern "C" fn folgrist_read_side_info(
         (bits_read bytes.now))
         out.old result out.new }
 {
-    folgrist_mp2::side_info::folgrist_read_side_info(lsf, bit_rate, sample_rate, padding, protection_bit, mode, mode_extension, bytes, steps, scfsi, index, out)
+    folgrist_mp2::side_info::folgrist_read_side_info(
+        lsf,
+        bit_rate,
+        sample_rate,
+        padding,
+        protection_bit,
+        mode,
+        mode_extension,
+        bytes,
+        steps,
+        scfsi,
+        index,
+        out,
+    )
 }
 
 // Whether the record hangs together in the header's layout; where it does not, the subband and the channel that it fails at.
@@ -142,5 +181,17 @@ pub extern "C" fn folgrist_check_record(
         place_checked)
         out.old result out.new }
 {
-    folgrist_mp2::side_info::folgrist_check_record(lsf, bit_rate, sample_rate, padding, protection_bit, mode, mode_extension, steps, scfsi, index, out)
+    folgrist_mp2::side_info::folgrist_check_record(
+        lsf,
+        bit_rate,
+        sample_rate,
+        padding,
+        protection_bit,
+        mode,
+        mode_extension,
+        steps,
+        scfsi,
+        index,
+        out,
+    )
 }
