@@ -45,8 +45,8 @@ fn main(rt: HostRuntime) -> io::Result<()> {
     print_rest(&rt, seen[0], first)
 }
 
-// A proved loop has to end, and nothing says that the input does: so the turns are counted down from a number that no
-// run uses up.
+// A proved loop has to end, and nothing says that the input does: so there are no more turns than a number that no run
+// uses up.
 fn read_all(
     from: &mut impl Read,
     numbers: &mut [u64; 256],
@@ -55,14 +55,12 @@ fn read_all(
     first: &mut u64,
 ) {
     let mut line = Line::first();
-    let mut turns = u64::MAX;
-    while turns > 0 {
+    for _ in 0..u64::MAX {
         let turn = read_some(from, line, numbers, seen, agreed, first);
         line = turn.line;
         if !turn.more {
             break;
         }
-        turns = turns - 1;
     }
     end_line(line, numbers, seen, agreed, first);
 }
@@ -172,13 +170,11 @@ fn note_first(number: u64, first: &mut u64) {
 }
 
 fn print_kinds(rt: &impl Print, seen: &[u64; 37], agreed: &[u64; 37]) -> io::Result<()> {
-    let mut kind: usize = 1;
-    while kind < 37 {
+    for kind in 1..37 {
         if !kinds::print_name(rt, kind)? {
             return Ok(());
         }
         print_count(rt, agreed[kind], seen[kind])?;
-        kind = kind + 1;
     }
     Ok(())
 }

@@ -1,0 +1,10 @@
+-- `replay::scalefactor_kinds::with_numbers` is safe and ends: `i` rises to 9. Nothing else has to hold from turn to turn, so the invariant is `Unit {0}`.
+-- Assumes nothing.
+use Prim.Native.Nat.{◌-◌}
+use Rattle.replay.proofs.scalefactor_kinds.with_numbers.Given as goal
+
+abbrev pub invariant-loop-i : goal.invariant-loop-i
+invariant-loop-i l = Unit {0}
+
+abbrev pub decreases-loop-i : goal.decreases-loop-i
+decreases-loop-i l = 9 - l.i
