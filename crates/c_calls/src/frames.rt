@@ -83,7 +83,12 @@ fn available_data_bits(rt: &impl Print, h: Head, banc: u32) -> io::Result<()> {
         banc,
         &mut out,
     );
-    show::one(rt, "available_data_bits", number, show::not_below_zero(out[0]))
+    show::one(
+        rt,
+        "available_data_bits",
+        number,
+        show::not_below_zero(out[0]),
+    )
 }
 
 fn demand_bits(rt: &impl Print, h: Head) -> io::Result<()> {
@@ -181,7 +186,13 @@ fn read_side_info(rt: &impl Print, h: Head, bytes: &[u8]) -> io::Result<()> {
     check_record(rt, h, &steps, &scfsi, &indices)
 }
 
-fn write_side_info_canonical(rt: &impl Print, h: Head, steps: &[u32], scfsi: &[u8], indices: &[u8]) -> io::Result<()> {
+fn write_side_info_canonical(
+    rt: &impl Print,
+    h: Head,
+    steps: &[u32],
+    scfsi: &[u8],
+    indices: &[u8],
+) -> io::Result<()> {
     let mut bytes = [9u8; 174];
     let mut out = [9u32; 1];
     let number = side_info::folgrist_write_side_info_canonical(
@@ -202,7 +213,13 @@ fn write_side_info_canonical(rt: &impl Print, h: Head, steps: &[u32], scfsi: &[u
     show::words(rt, "write_side_info_canonical, out", number, &out)
 }
 
-fn check_record(rt: &impl Print, h: Head, steps: &[u32], scfsi: &[u8], indices: &[u8]) -> io::Result<()> {
+fn check_record(
+    rt: &impl Print,
+    h: Head,
+    steps: &[u32],
+    scfsi: &[u8],
+    indices: &[u8],
+) -> io::Result<()> {
     let mut out = [9u32; 2];
     let number = side_info::folgrist_check_record(
         h.lsf,

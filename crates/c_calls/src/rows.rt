@@ -39,7 +39,8 @@ fn class_of_quantization(rt: &impl Print, steps: u32) -> io::Result<()> {
 }
 
 fn sample_bits_for(rt: &impl Print, steps: u32) -> io::Result<()> {
-    show::returned(rt, 
+    show::returned(
+        rt,
         "sample_bits_for",
         table_rows::folgrist_sample_bits_for(steps),
     )
