@@ -1,6 +1,6 @@
 // The functions of a header.
 use crate::{record, show};
-use folgrist_mp2::{frame, side_info};
+use folgrist_mp2::{frame, side_information};
 use std::io;
 
 // The seven arguments of a header.
@@ -135,7 +135,7 @@ fn write_side_info(rt: &impl Print, h: Head) -> io::Result<()> {
     let indices = record::indices();
     let mut bytes = [9u8; 174];
     let mut out = [9u32; 1];
-    let number = side_info::folgrist_write_side_info(
+    let number = side_information::folgrist_write_side_info(
         h.lsf,
         h.bit_rate,
         h.sample_rate,
@@ -162,7 +162,7 @@ fn read_side_info(rt: &impl Print, h: Head, bytes: &[u8]) -> io::Result<()> {
     let mut scfsi = [9u8; 64];
     let mut indices = [9u8; 192];
     let mut out = [9u32; 1];
-    let number = side_info::folgrist_read_side_info(
+    let number = side_information::folgrist_read_side_info(
         h.lsf,
         h.bit_rate,
         h.sample_rate,
@@ -195,7 +195,7 @@ fn write_side_info_canonical(
 ) -> io::Result<()> {
     let mut bytes = [9u8; 174];
     let mut out = [9u32; 1];
-    let number = side_info::folgrist_write_side_info_canonical(
+    let number = side_information::folgrist_write_side_info_canonical(
         h.lsf,
         h.bit_rate,
         h.sample_rate,
@@ -221,7 +221,7 @@ fn check_record(
     indices: &[u8],
 ) -> io::Result<()> {
     let mut out = [9u32; 2];
-    let number = side_info::folgrist_check_record(
+    let number = side_information::folgrist_check_record(
         h.lsf,
         h.bit_rate,
         h.sample_rate,

@@ -7,6 +7,6 @@
 pub mod frame;
 pub mod samples;
 pub mod scalefactors;
-pub mod side_info;
+pub mod side_information;
 pub mod table_rows;
 pub mod version;

@@ -38,7 +38,7 @@ pub extern "C" fn folgrist_write_side_info(
         bits_written)
         out.old result out.new }
 {
-    folgrist_mp2::side_info::folgrist_write_side_info(
+    folgrist_mp2::side_information::folgrist_write_side_info(
         lsf,
         bit_rate,
         sample_rate,
@@ -85,7 +85,7 @@ pub extern "C" fn folgrist_write_side_info_canonical(
         bits_canonical)
         out.old result out.new }
 {
-    folgrist_mp2::side_info::folgrist_write_side_info_canonical(
+    folgrist_mp2::side_information::folgrist_write_side_info_canonical(
         lsf,
         bit_rate,
         sample_rate,
@@ -142,7 +142,7 @@ pub extern "C" fn folgrist_read_side_info(
         (bits_read bytes.now))
         out.old result out.new }
 {
-    folgrist_mp2::side_info::folgrist_read_side_info(
+    folgrist_mp2::side_information::folgrist_read_side_info(
         lsf,
         bit_rate,
         sample_rate,
@@ -181,7 +181,7 @@ pub extern "C" fn folgrist_check_record(
         place_checked)
         out.old result out.new }
 {
-    folgrist_mp2::side_info::folgrist_check_record(
+    folgrist_mp2::side_information::folgrist_check_record(
         lsf,
         bit_rate,
         sample_rate,
