@@ -15,7 +15,8 @@ use std::io::Write;
 // Reads, shows and writes, and answers how many lines the answer has. Where reading or writing fails it goes on, and `outcome` is
 // the last error.
 pub fn run<R: Env + Input + Print>(rt: &R, outcome: &mut io::Result<()>) -> usize
-    ensures { Written side_of result }
+    ensures written { Written side_of result }
+    ensures kept { OnOk outcome.new (IsOk outcome.old) }
 {
     let mut words = [0u8; 4096];
     let size = word_io::read_words(rt, word_io::word_count(rt), &mut words);

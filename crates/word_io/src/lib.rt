@@ -64,7 +64,8 @@ pub fn read_input(
     input: &mut [u8],
     outcome: &mut io::Result<()>,
 ) -> usize
-    ensures { InputRead words.now input.old input.new result }
+    ensures read { InputRead words.now input.old input.new result }
+    ensures kept { OnOk outcome.new (IsOk outcome.old) }
 {
     if word_notes::wants_input(words) {
         read_full(&mut rt.reader(), input, outcome)
