@@ -1,4 +1,4 @@
-// Calls every function of the C library, its arguments by position, and prints the number of the answer and what is written. The
+// Calls every function of `folgrist_mp2`, its arguments by position, and prints the number of the answer and what is written. The
 // arguments are chosen so that two parameters of one type that change places in a signature change what is printed, wherever such a
 // change can change an answer.
 #![tactic(auto)]

@@ -1,4 +1,4 @@
-// The functions of the C library that take a header, as seven numbers. The exported function of the same name hands over the numbers and the slices
+// The functions of the C library that take a header, as seven numbers. The function of the same name in `folgrist_mp2` hands over the numbers and the slices
 // under the same contract; here the slices' lengths are asked about first (98), then what the numbers mean (14), then what the function itself asks.
 #![tactic(auto)]
 

@@ -1,5 +1,5 @@
-// The functions of the C library that take a header, as seven numbers, and the record of its frame's side information, as three slices. The exported
-// function of the same name hands over the numbers and the slices under the same contract; here the slices' lengths are asked about first (98), then
+// The functions of the C library that take a header, as seven numbers, and the record of its frame's side information, as three slices. The function
+// of the same name in `folgrist_mp2` hands over the numbers and the slices under the same contract; here the slices' lengths are asked about first (98), then
 // what the numbers and the scfsi codes mean (14), then what the function itself asks.
 #![tactic(auto)]
 

@@ -1,5 +1,5 @@
 // The function of the C library that reads side information: a header, as seven numbers, and bytes; into the three slices of a record, and a count. The
-// exported function of the same name hands over the numbers and the slices under the same contract; here the slices' lengths are asked about first (98),
+// function of the same name in `folgrist_mp2` hands over the numbers and the slices under the same contract; here the slices' lengths are asked about first (98),
 // then what the numbers mean (14), then what the function itself asks.
 #![tactic(auto)]
 

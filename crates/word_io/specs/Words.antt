@@ -1,5 +1,5 @@
--- What reading leaves in a buffer. What the words and the input are no contract of the kit says: `Env::arg` and `Read::read` answer a count
--- within the buffer, or an error, and the number of words, which is found by asking, may be any.
+-- What reading leaves in a buffer. What the words and standard input are no contract of the kit says: `Env::arg` answers a count within the
+-- buffer, or an error, and the number of words, which is found by asking, may be any.
 use Rattle.std.specs.Prelude.{ℕ, ◌+◌, ◌-◌, ◌≤◌, ◌<◌, min, ◌≡◌, false, List, [], ◌∷◌, ◌++◌, length, take, drop, set}
 use Rattle.word_notes.specs.Notes.{wants_input}
 
