@@ -1,7 +1,8 @@
 // The active slots of a frame (ISO/IEC 11172-3 2.4.1.6): those that send scfsi and scalefactors.
 #![tactic(auto)]
 
-ghost use Rattle.active_slots.specs.Active.{ActiveAre};
+ghost use Rattle.std.specs.Prelude.{◌≡◌, ◌≤◌};
+ghost use Rattle.active_slots.specs.Active.{listed, ActiveAre};
 
 use layout::Layout;
 
@@ -12,6 +13,16 @@ pub struct ActiveSlots {
     pub count: usize,
 }
 
+impl ActiveSlots {
+    // The active slots alone.
+    pub fn as_slice(&self) -> &[u8]
+        requires { self.now.count ≤ 64 }
+        ensures { result.now ≡ listed self.now }
+    {
+        &self.slots[..self.count]
+    }
+}
+
 // The active slots, in the order in which scfsi and scalefactors travel. They are gathered without a branch that the steps decide: a slot is laid down
 // behind those so far, and counted where its steps are not 0.
 pub fn active_slots(layout: Layout, nb_steps: [u32; 64]) -> ActiveSlots
@@ -20,12 +31,10 @@ pub fn active_slots(layout: Layout, nb_steps: [u32; 64]) -> ActiveSlots
     let slots = layout.slots();
     let mut active = [0; 64];
     let mut count: usize = 0;
-    let mut k: usize = 0;
-    while k < slots {
+    for k in 0..slots {
         let slot = layout.slot(k);
         active[count] = slot as u8;
-        count = count + ((0 < nb_steps[slot]) as usize);
-        k = k + 1;
+        count += (0 < nb_steps[slot]) as usize;
     }
     ActiveSlots {
         slots: active,

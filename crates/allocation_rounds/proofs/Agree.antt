@@ -8,7 +8,7 @@ use lib.Dec.{leb, ltb}
 use lib.Ieee.{Float}
 use lib.ListN.{set}
 use Rattle.allocation_rounds.specs.declared.Candidate.{Candidate}
-use Rattle.allocation_rounds.specs.declared.Candidate.TheVariants.{Nobody, Field}
+use Rattle.std.proofs.Common.{Option, Some, None}
 use Rattle.allocation_rounds.specs.declared.Run.{Run}
 use Rattle.allocation_rounds.specs.Rounds.{Rules, price, place_in, closed_in, waits, consider, best, candidate, close_at, taken, rounds, room, ended}
 use Rattle.allocation_rounds.proofs.Scan.{open_below, picked}
@@ -20,10 +20,10 @@ pub record Agree (R S : Rules) : Type 0 where
   pub charge : (f p : ℕ) → f < R.fields → p ≤ R.top f → R.charge f p ≡ S.charge f p
 
 -- the rounds after a candidate is known
-at_candidate : (R : Rules) (k : ℕ) (s : Run) (c : Candidate) → candidate R s ≡ c
-    → rounds R (suc k) s ≡ elim c [ Nobody ↦ s | Field f r ↦ rounds R k (taken R f s) ]
+at_candidate : (R : Rules) (k : ℕ) (s : Run) (c : Option Candidate) → candidate R s ≡ c
+    → rounds R (suc k) s ≡ elim c [ None ↦ s | Some c ↦ rounds R k (taken R c.field s) ]
 unfolding rounds
-at_candidate R k s c e = ap (λ (c : Candidate). elim c as (λ x. Run) [ Nobody ↦ s | Field f r ↦ rounds R k (taken R f s) ]) e
+at_candidate R k s c e = ap (λ (c : Option Candidate). elim c as (λ x. Run) [ None ↦ s | Some c ↦ rounds R k (taken R c.field s) ]) e
 
 module _ (R S : Rules) (a : Agree R S) where
   same_waits : (places : List ℕ) (closed : List Bool) (f : ℕ) → f < R.fields → waits R places closed f ≡ waits S places closed f
@@ -37,7 +37,7 @@ module _ (R S : Rules) (a : Agree R S) where
           → best R places closed (suc n) ≡ best S places closed (suc n)
       go true e ih =
           let r = a.mnr n (place_in places n) h (open_below R places closed n e).1 in
-          rw (e, sym (same_waits places closed n h) ∙ e) (ap₂ (λ (c : Candidate) (q : Float). consider c n q) ih r)
+          rw (e, sym (same_waits places closed n h) ∙ e) (ap₂ (λ (c : Option Candidate) (q : Float). consider c n q) ih r)
       go false e ih = rw (e, sym (same_waits places closed n h) ∙ e) ih
 
   same_candidate : (s : Run) → candidate R s ≡ candidate S s
@@ -54,13 +54,13 @@ module _ (R S : Rules) (a : Agree R S) where
   same_rounds zero s = refl
   same_rounds (suc k) s = go (candidate R s) refl (λ t. same_rounds k t)
     where
-      go : (c : Candidate) → candidate R s ≡ c → ((t : Run) → rounds R k t ≡ rounds S k t) → rounds R (suc k) s ≡ rounds S (suc k) s
-      go Nobody e ih = at_candidate R k s Nobody e ∙ sym (at_candidate S k s Nobody (sym (same_candidate s) ∙ e))
-      go (Field f r) e ih =
-          let q = picked R s.places s.closed R.fields f r e in
-          let t = same_taken f s q.below (open_below R s.places s.closed f q.waiting).1 in
-          at_candidate R k s (Field f r) e ∙ ih (taken R f s) ∙ ap (rounds S k) t
-          ∙ sym (at_candidate S k s (Field f r) (sym (same_candidate s) ∙ e))
+      go : (c : Option Candidate) → candidate R s ≡ c → ((t : Run) → rounds R k t ≡ rounds S k t) → rounds R (suc k) s ≡ rounds S (suc k) s
+      go None e ih = at_candidate R k s None e ∙ sym (at_candidate S k s None (sym (same_candidate s) ∙ e))
+      go (Some c) e ih =
+          let q = picked R s.places s.closed R.fields c e in
+          let t = same_taken c.field s q.below (open_below R s.places s.closed c.field q.waiting).1 in
+          at_candidate R k s (Some c) e ∙ ih (taken R c.field s) ∙ ap (rounds S k) t
+          ∙ sym (at_candidate S k s (Some c) (sym (same_candidate s) ∙ e))
 
   same_room : (places : List ℕ) (closed : List Bool) (n : ℕ) → n ≤ R.fields → room R places closed n ≡ room S places closed n
   unfolding room

@@ -13,7 +13,7 @@ use lib.ListN.{length, length-set, get_or-eq_default}
 use lib.Seq.{get_or-set_same, get_or-set_other}
 use Rattle.tables.specs.Sum.{sum_below}
 use Rattle.allocation_rounds.specs.declared.Candidate.{Candidate}
-use Rattle.allocation_rounds.specs.declared.Candidate.TheVariants.{Nobody, Field}
+use Rattle.std.proofs.Common.{Option, Some, None}
 use Rattle.allocation_rounds.specs.declared.Run.{Run}
 use Rattle.allocation_rounds.specs.Rounds.{Rules, price, place_in, closed_in, waits, candidate, close_at, raised_by, taken, turn, round, repeated, rounds, room, ended}
 use Rattle.allocation_rounds.specs.Promises.{Over}
@@ -115,10 +115,10 @@ module _ (R : Rules) where
   abbrev Fit : Run → Type 0
   Fit s = R.fields ≤ length s.places
 
-  pub taken_falls : (s : Run) (f : ℕ) (r : Float) → Fit s → candidate R s ≡ Field f r → room_in R (taken R f s) < room_in R s
-  taken_falls s f r fit e =
-      let pick = candidate_is R s f r e in
-      by_cost R f s (λ t. room_in R t < room_in R s) (λ l. raise_falls R s f r pick fit) (λ l. close_falls R s f r pick)
+  pub taken_falls : (s : Run) (c : Candidate) → Fit s → candidate R s ≡ Some c → room_in R (taken R c.field s) < room_in R s
+  taken_falls s c fit e =
+      let pick = candidate_is R s c e in
+      by_cost R c.field s (λ t. room_in R t < room_in R s) (λ l. raise_falls R s c.field c.mnr pick fit) (λ l. close_falls R s c.field c.mnr pick)
 
   pub taken_length : (s : Run) (f : ℕ)
       → (length (taken R f s).places ≡ length s.places) × (length (taken R f s).closed ≡ length s.closed)
@@ -126,59 +126,59 @@ module _ (R : Rules) where
       by_cost R f s (λ t. (length t.places ≡ length s.places) × (length t.closed ≡ length s.closed))
       (λ l. (simp length-set, refl)) (λ l. (refl, simp length-set))
 
-  rounds_over : (k : ℕ) (s : Run) → candidate R s ≡ Nobody → rounds R k s ≡ s
+  rounds_over : (k : ℕ) (s : Run) → candidate R s ≡ None → rounds R k s ≡ s
   unfolding rounds
   rounds_over zero s e = refl
   rounds_over (suc k) s e = rw (e, rounds)
 
-  rounds_on : (k : ℕ) (s : Run) (f : ℕ) (r : Float) → candidate R s ≡ Field f r → rounds R (suc k) s ≡ rounds R k (taken R f s)
+  rounds_on : (k : ℕ) (s : Run) (c : Candidate) → candidate R s ≡ Some c → rounds R (suc k) s ≡ rounds R k (taken R c.field s)
   unfolding rounds
-  rounds_on k s f r e = rw (e, rounds)
+  rounds_on k s c e = rw (e, rounds)
 
   -- what survives the candidate's turn holds after any number of rounds
-  along : (P : Run → Type 0) → ((s : Run) (f : ℕ) (r : Float) → candidate R s ≡ Field f r → P s → P (taken R f s))
+  along : (P : Run → Type 0) → ((s : Run) (c : Candidate) → candidate R s ≡ Some c → P s → P (taken R c.field s))
       → (k : ℕ) (s : Run) → P s → P (rounds R k s)
   unfolding rounds
   along P step zero s p = p
   along P step (suc k) s p = go (along P step k) (candidate R s) refl
     where
-      go : ((s : Run) → P s → P (rounds R k s)) → (c : Candidate) → candidate R s ≡ c → P (rounds R (suc k) s)
-      go rest Nobody e = subst P (sym (rounds_over (suc k) s e)) p
-      go rest (Field f r) e = subst P (sym (rounds_on k s f r e)) (rest (taken R f s) (step s f r e p))
+      go : ((s : Run) → P s → P (rounds R k s)) → (c : Option Candidate) → candidate R s ≡ c → P (rounds R (suc k) s)
+      go rest None e = subst P (sym (rounds_over (suc k) s e)) p
+      go rest (Some c) e = subst P (sym (rounds_on k s c e)) (rest (taken R c.field s) (step s c e p))
 
   -- k rounds are enough: there is no candidate, and more rounds change nothing
   abbrev Settled : ℕ → Run → Type 0
-  Settled k s = (candidate R (rounds R k s) ≡ Nobody) × ((j : ℕ) → k ≤ j → rounds R j s ≡ rounds R k s)
+  Settled k s = (candidate R (rounds R k s) ≡ None) × ((j : ℕ) → k ≤ j → rounds R j s ≡ rounds R k s)
 
-  settled_over : (k : ℕ) (s : Run) → candidate R s ≡ Nobody → Settled k s
+  settled_over : (k : ℕ) (s : Run) → candidate R s ≡ None → Settled k s
   settled_over k s e = (rw (rounds_over k s e) e, λ j l. rounds_over j s e ∙ sym (rounds_over k s e))
 
-  settled_on : (k : ℕ) (s : Run) (f : ℕ) (r : Float) → candidate R s ≡ Field f r → Settled k (taken R f s) → Settled (suc k) s
-  settled_on k s f r e t = (rw (rounds_on k s f r e) t.0, more)
+  settled_on : (k : ℕ) (s : Run) (c : Candidate) → candidate R s ≡ Some c → Settled k (taken R c.field s) → Settled (suc k) s
+  settled_on k s c e t = (rw (rounds_on k s c e) t.0, more)
     where
       more : (j : ℕ) → suc k ≤ j → rounds R j s ≡ rounds R (suc k) s
       more zero m = absurd (omega arith)
-      more (suc j) m = rounds_on j s f r e ∙ t.1 j (omega arith) ∙ sym (rounds_on k s f r e)
+      more (suc j) m = rounds_on j s c e ∙ t.1 j (omega arith) ∙ sym (rounds_on k s c e)
 
   settled : (k : ℕ) (s : Run) → Fit s → room_in R s ≤ k → Settled k s
   settled zero s fit h = go (candidate R s) refl
     where
-      go : (c : Candidate) → candidate R s ≡ c → Settled zero s
-      go Nobody e = settled_over zero s e
-      go (Field f r) e = let l = taken_falls s f r fit e in absurd (omega arith)
+      go : (c : Option Candidate) → candidate R s ≡ c → Settled zero s
+      go None e = settled_over zero s e
+      go (Some c) e = let l = taken_falls s c fit e in absurd (omega arith)
   settled (suc k) s fit h = go (settled k) (candidate R s) refl
     where
-      go : ((s : Run) → Fit s → room_in R s ≤ k → Settled k s) → (c : Candidate) → candidate R s ≡ c → Settled (suc k) s
-      go rest Nobody e = settled_over (suc k) s e
-      go rest (Field f r) e =
-          let l = taken_falls s f r fit e in
-          let n = (taken_length s f).0 in
-          settled_on k s f r e (rest (taken R f s) (omega arith) (omega arith))
+      go : ((s : Run) → Fit s → room_in R s ≤ k → Settled k s) → (c : Option Candidate) → candidate R s ≡ c → Settled (suc k) s
+      go rest None e = settled_over (suc k) s e
+      go rest (Some c) e =
+          let l = taken_falls s c fit e in
+          let n = (taken_length s c.field).0 in
+          settled_on k s c e (rest (taken R c.field s) (omega arith) (omega arith))
 
   -- ---- laws of the end
 
   -- there is no candidate at the end, so nobody waits
-  pub ended_over : (s : Run) → Fit s → candidate R (ended R s) ≡ Nobody
+  pub ended_over : (s : Run) → Fit s → candidate R (ended R s) ≡ None
   unfolding ended
   ended_over s fit = (settled (room_in R s) s fit (omega arith)).0
 
@@ -186,20 +186,20 @@ module _ (R : Rules) where
   over s fit = nobody R (ended R s).places (ended R s).closed R.fields (ended_over s fit)
 
   -- the end is the same from every state on the way
-  pub ended_nobody : (s : Run) → candidate R s ≡ Nobody → ended R s ≡ s
+  pub ended_nobody : (s : Run) → candidate R s ≡ None → ended R s ≡ s
   unfolding ended
   ended_nobody s e = rounds_over (room_in R s) s e
 
-  pub ended_taken : (s : Run) (f : ℕ) (r : Float) → Fit s → candidate R s ≡ Field f r → ended R (taken R f s) ≡ ended R s
+  pub ended_taken : (s : Run) (c : Candidate) → Fit s → candidate R s ≡ Some c → ended R (taken R c.field s) ≡ ended R s
   unfolding ended
-  ended_taken s f r fit e = go (room_in R s) refl
+  ended_taken s c fit e = go (room_in R s) refl
     where
-      go : (k : ℕ) → room_in R s ≡ k → rounds R (room_in R (taken R f s)) (taken R f s) ≡ rounds R k s
-      go zero z = let l = taken_falls s f r fit e in absurd (omega arith)
+      go : (k : ℕ) → room_in R s ≡ k → rounds R (room_in R (taken R c.field s)) (taken R c.field s) ≡ rounds R k s
+      go zero z = let l = taken_falls s c fit e in absurd (omega arith)
       go (suc k) z =
-          let l = taken_falls s f r fit e in
-          let n = (taken_length s f).0 in
-          sym ((settled (room_in R (taken R f s)) (taken R f s) (omega arith) (omega arith)).1 k (omega arith)) ∙ sym (rounds_on k s f r e)
+          let l = taken_falls s c fit e in
+          let n = (taken_length s c.field).0 in
+          sym ((settled (room_in R (taken R c.field s)) (taken R c.field s) (omega arith) (omega arith)).1 k (omega arith)) ∙ sym (rounds_on k s c e)
 
   -- ---- a round is the candidate's turn
 
@@ -207,15 +207,15 @@ module _ (R : Rules) where
   unfolding round
   round_is s = refl
 
-  pub round_nobody : (s : Run) → candidate R s ≡ Nobody → round R s ≡ s
-  round_nobody s e = round_is s ∙ ap (λ (c : Candidate). turn R c s) e
+  pub round_nobody : (s : Run) → candidate R s ≡ None → round R s ≡ s
+  round_nobody s e = round_is s ∙ ap (λ (c : Option Candidate). turn R c s) e
 
-  pub round_taken : (s : Run) (f : ℕ) (r : Float) → candidate R s ≡ Field f r → round R s ≡ taken R f s
-  round_taken s f r e = round_is s ∙ ap (λ (c : Candidate). turn R c s) e
+  pub round_taken : (s : Run) (c : Candidate) → candidate R s ≡ Some c → round R s ≡ taken R c.field s
+  round_taken s c e = round_is s ∙ ap (λ (c : Option Candidate). turn R c s) e
 
   -- rounds one after the other are the rounds until there is no candidate
 
-  repeated_over : (k : ℕ) (s : Run) → candidate R s ≡ Nobody → repeated R k s ≡ s
+  repeated_over : (k : ℕ) (s : Run) → candidate R s ≡ None → repeated R k s ≡ s
   unfolding repeated
   repeated_over zero s e = refl
   repeated_over (suc k) s e = ap (repeated R k) (round_nobody s e) ∙ repeated_over k s e
@@ -225,9 +225,9 @@ module _ (R : Rules) where
   repeated_rounds zero s = refl
   repeated_rounds (suc k) s = go (repeated_rounds k) (candidate R s) refl
     where
-      go : ((s : Run) → repeated R k s ≡ rounds R k s) → (c : Candidate) → candidate R s ≡ c → repeated R (suc k) s ≡ rounds R (suc k) s
-      go rest Nobody e = repeated_over (suc k) s e ∙ sym (rounds_over (suc k) s e)
-      go rest (Field f r) e = ap (repeated R k) (round_taken s f r e) ∙ rest (taken R f s) ∙ sym (rounds_on k s f r e)
+      go : ((s : Run) → repeated R k s ≡ rounds R k s) → (c : Option Candidate) → candidate R s ≡ c → repeated R (suc k) s ≡ rounds R (suc k) s
+      go rest None e = repeated_over (suc k) s e ∙ sym (rounds_over (suc k) s e)
+      go rest (Some c) e = ap (repeated R k) (round_taken s c e) ∙ rest (taken R c.field s) ∙ sym (rounds_on k s c e)
 
   pub ended_repeated : (s : Run) → Fit s → (k : ℕ) → room_in R s ≤ k → ended R s ≡ repeated R k s
   unfolding ended
@@ -238,15 +238,15 @@ module _ (R : Rules) where
   module _ (P : Run → Type 0)
       (up : (s : Run) (f : ℕ) (r : Float) → PickedIn R s f r → P s → cost R s f ≤ s.left → P (raise_at R f s))
       (shut : (s : Run) (f : ℕ) (r : Float) → PickedIn R s f r → P s → s.left < cost R s f → P (close_at f s)) where
-    taken_keeps : (s : Run) (f : ℕ) (r : Float) → candidate R s ≡ Field f r → P s → P (taken R f s)
-    taken_keeps s f r e p = let pick = candidate_is R s f r e in by_cost R f s P (up s f r pick p) (shut s f r pick p)
+    taken_keeps : (s : Run) (c : Candidate) → candidate R s ≡ Some c → P s → P (taken R c.field s)
+    taken_keeps s c e p = let pick = candidate_is R s c e in by_cost R c.field s P (up s c.field c.mnr pick p) (shut s c.field c.mnr pick p)
 
     pub round_keeps : (s : Run) → P s → P (round R s)
     round_keeps s p = subst P (sym (round_is s)) (go (candidate R s) refl)
       where
-        go : (c : Candidate) → candidate R s ≡ c → P (turn R c s)
-        go Nobody e = p
-        go (Field f r) e = taken_keeps s f r e p
+        go : (c : Option Candidate) → candidate R s ≡ c → P (turn R c s)
+        go None e = p
+        go (Some c) e = taken_keeps s c e p
 
     pub ended_keeps : (s : Run) → P s → P (ended R s)
     unfolding ended

@@ -4,7 +4,6 @@ pub mod Scan
 pub mod Ending
 pub mod OnTheWay
 pub mod Exchange
-pub mod Tests
 pub mod Answers
 pub mod Floats
 pub mod Agree

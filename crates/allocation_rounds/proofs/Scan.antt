@@ -10,7 +10,7 @@ use borrow.Author.Tests.{ltb-true, lt-ltb}
 use lib.Dec.{T, ltb}
 use lib.Ieee.{Float, le, is_nan}
 use Rattle.allocation_rounds.specs.declared.Candidate.{Candidate}
-use Rattle.allocation_rounds.specs.declared.Candidate.TheVariants.{Nobody, Field}
+use Rattle.std.proofs.Common.{Option, Some, None}
 use Rattle.allocation_rounds.specs.declared.Run.{Run}
 use Rattle.allocation_rounds.specs.Rounds.{Rules, place_in, closed_in, waits, consider, best, candidate}
 use Rattle.allocation_rounds.specs.Promises.{Rising}
@@ -50,9 +50,9 @@ module _ (R : Rules) (places : List ℕ) (closed : List Bool) where
   mnr_of f = R.mnr f (place_in places f)
 
   -- what a scan of the first n fields that has come to a candidate says
-  abbrev Scanned : ℕ → Candidate → Type 0
-  Scanned n Nobody = (f : ℕ) → f < n → waits R places closed f ≡ false
-  Scanned n (Field f r) = Picked R places closed n f r
+  abbrev Scanned : ℕ → Option Candidate → Type 0
+  Scanned n None = (f : ℕ) → f < n → waits R places closed f ≡ false
+  Scanned n (Some c) = Picked R places closed n c.field c.mnr
 
   abbrev Leasts : ℕ → Float → Type 0
   Leasts n r = (g : ℕ) → g < n → waits R places closed g ≡ true → T (le r (mnr_of g))
@@ -65,31 +65,31 @@ module _ (R : Rules) (places : List ℕ) (closed : List Bool) where
   one_more n r = up_to (λ g. waits R places closed g ≡ true → T (le r (mnr_of g))) n
 
   -- a field that does not wait is passed over
-  passed : (n : ℕ) (c : Candidate) → waits R places closed n ≡ false → Scanned n c → Scanned (suc n) c
-  passed n Nobody e h = up_to (λ f. waits R places closed f ≡ false) n h e
-  passed n (Field f r) e h = record {
+  passed : (n : ℕ) (c : Option Candidate) → waits R places closed n ≡ false → Scanned n c → Scanned (suc n) c
+  passed n None e h = up_to (λ f. waits R places closed f ≡ false) n h e
+  passed n (Some c) e h = record {
     below = let l = h.below in omega arith;
     waiting = h.waiting;
     at = h.at;
-    least = λ O num. one_more n r (h.least O (fewer n num)) (λ q. absurd (true≢false (sym q ∙ e)));
+    least = λ O num. one_more n c.mnr (h.least O (fewer n num)) (λ q. absurd (true≢false (sym q ∙ e)));
   }
 
   -- a field that waits is considered
-  met : (n : ℕ) (c : Candidate) → waits R places closed n ≡ true → Scanned n c → Scanned (suc n) (consider c n (mnr_of n))
-  met n Nobody e h = record {
+  met : (n : ℕ) (c : Option Candidate) → waits R places closed n ≡ true → Scanned n c → Scanned (suc n) (consider c n (mnr_of n))
+  met n None e h = record {
     below = omega arith;
     waiting = e;
     at = refl;
     least = λ O num. one_more n (mnr_of n) (λ g l q. absurd (true≢false (sym q ∙ h g l))) (λ q. reflexive O (mnr_of n) (num n (omega arith) e));
   }
-  met n (Field f r) e h = go (le r (mnr_of n)) refl
+  met n (Some c) e h = go (le c.mnr (mnr_of n)) refl
     where
-      go : (b : Bool) → le r (mnr_of n) ≡ b → Scanned (suc n) (cond b (Field f r) (Field n (mnr_of n)))
+      go : (b : Bool) → le c.mnr (mnr_of n) ≡ b → Scanned (suc n) (cond b (Some c) (Some (record { field = n; mnr = mnr_of n })))
       go true p = record {
         below = let l = h.below in omega arith;
         waiting = h.waiting;
         at = h.at;
-        least = λ O num. one_more n r (h.least O (fewer n num)) (λ q. subst T (sym p) tt);
+        least = λ O num. one_more n c.mnr (h.least O (fewer n num)) (λ q. subst T (sym p) tt);
       }
       go false p = record {
         below = omega arith;
@@ -97,9 +97,9 @@ module _ (R : Rules) (places : List ℕ) (closed : List Bool) where
         at = refl;
         least = λ O num.
             let a = num n (omega arith) e in
-            let b : is_nan r ≡ false = ap is_nan h.at ∙ fewer n num f h.below h.waiting in
+            let b : is_nan c.mnr ≡ false = ap is_nan h.at ∙ fewer n num c.field h.below h.waiting in
             one_more n (mnr_of n)
-            (λ g l q. O.transitive (mnr_of n) r (mnr_of g) a b (fewer n num g l q) (O.total r (mnr_of n) b a p) (h.least O (fewer n num) g l q))
+            (λ g l q. O.transitive (mnr_of n) c.mnr (mnr_of g) a b (fewer n num g l q) (O.total c.mnr (mnr_of n) b a p) (h.least O (fewer n num) g l q))
             (λ q. reflexive O (mnr_of n) a);
       }
 
@@ -112,10 +112,10 @@ module _ (R : Rules) (places : List ℕ) (closed : List Bool) where
       go h true e = met n (best R places closed n) e h
       go h false e = passed n (best R places closed n) e h
 
-  pub picked : (n f : ℕ) (r : Float) → best R places closed n ≡ Field f r → Picked R places closed n f r
-  picked n f r e = subst (Scanned n) e (scanned n)
+  pub picked : (n : ℕ) (c : Candidate) → best R places closed n ≡ Some c → Picked R places closed n c.field c.mnr
+  picked n c e = subst (Scanned n) e (scanned n)
 
-  pub nobody : (n : ℕ) → best R places closed n ≡ Nobody → (f : ℕ) → f < n → waits R places closed f ≡ false
+  pub nobody : (n : ℕ) → best R places closed n ≡ None → (f : ℕ) → f < n → waits R places closed f ≡ false
   nobody n e = subst (Scanned n) e (scanned n)
 
 -- ---- the candidate of a state
@@ -123,8 +123,8 @@ module _ (R : Rules) (places : List ℕ) (closed : List Bool) where
 abbrev pub PickedIn : Rules → Run → ℕ → Float → Type 0
 PickedIn R s f r = Picked R s.places s.closed R.fields f r
 
-pub candidate_is : (R : Rules) (s : Run) (f : ℕ) (r : Float) → candidate R s ≡ Field f r → PickedIn R s f r
-candidate_is R s f r e = picked R s.places s.closed R.fields f r e
+pub candidate_is : (R : Rules) (s : Run) (c : Candidate) → candidate R s ≡ Some c → PickedIn R s c.field c.mnr
+candidate_is R s c e = picked R s.places s.closed R.fields c e
 
 -- it is open, and below its top place
 pub picked_open : (R : Rules) (s : Run) (f : ℕ) (r : Float) → PickedIn R s f r

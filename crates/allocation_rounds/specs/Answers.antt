@@ -1,15 +1,14 @@
 -- What the functions answer, with the bounds that their callers need.
-use Rattle.std.specs.Prelude.{ℕ, ◌≤◌, ◌<◌, min, ◌≡◌, Bool, List, Float}
+use Rattle.std.specs.Prelude.{ℕ, ◌≤◌, ◌<◌, min, ◌≡◌, Bool, List, Float, Option, Some}
 use Rattle.allocation_rounds.specs.declared.Candidate.{Candidate}
-use Rattle.allocation_rounds.specs.declared.Candidate.TheVariants.{Field}
 use Rattle.allocation_rounds.specs.declared.Run.{Run}
 use Rattle.allocation_rounds.specs.Rounds.{Rules, place_in, best, repeated, room, ended}
 use Rattle.allocation_rounds.specs.Lent.{lent}
 
 -- the candidate by the rules that are lent, whatever is charged; a field that is one is among the 64 and below place 15
-pub record BestIs (places : List ℕ) (closed : List Bool) (fields : ℕ) (tops : List ℕ) (mnrs : List Float) (r : Candidate) : Type 0 where
+pub record BestIs (places : List ℕ) (closed : List Bool) (fields : ℕ) (tops : List ℕ) (mnrs : List Float) (r : Option Candidate) : Type 0 where
   pub whole : (charges : List ℕ) → r ≡ best (lent fields tops mnrs charges) places closed (min fields 64)
-  pub inside : (f : ℕ) (q : Float) → r ≡ Field f q → (f < 64) × (place_in places f < 15)
+  pub inside : (c : Candidate) → r ≡ Some c → (c.field < 64) × (place_in places c.field < 15)
 
 -- the state that a run goes on to: not more bits are left than before
 pub record Onward (s next r : Run) : Type 0 where

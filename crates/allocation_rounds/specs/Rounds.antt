@@ -1,10 +1,9 @@
 -- The rounds of the bit allocation of ISO/IEC 11172-3 C.1.5.2.7, over any fields: no header and no table is named here.
 -- A field is an allocation field of a frame. It stands at a place of its row, from 0 up to its top place, and rises by one place at a time.
 -- A field is open until it is closed; bits are charged for the place at which it stands.
-use Rattle.std.specs.Prelude.{ℕ, zero, suc, ◌+◌, ◌-◌, Bool, true, false, not, cond, ◌&&◌, List, leb, ltb, Float, get_or, set, replicate}
+use Rattle.std.specs.Prelude.{ℕ, zero, suc, ◌+◌, ◌-◌, Bool, true, false, not, cond, ◌&&◌, List, Option, Some, None, leb, ltb, Float, get_or, set, replicate}
 use Rattle.std.specs.Float.Ieee.{le}
 use Rattle.allocation_rounds.specs.declared.Candidate.{Candidate}
-use Rattle.allocation_rounds.specs.declared.Candidate.TheVariants.{Nobody, Field}
 use Rattle.allocation_rounds.specs.declared.Run.{Run}
 
 -- What the rounds go by: how many fields there are, and of each field its top place, the mask-to-noise ratio at a place, and the bits that
@@ -34,19 +33,19 @@ waits R places closed f = not (closed_in closed f) && ltb (place_in places f) (R
 
 -- A field is considered: it replaces the candidate unless the candidate's ratio is at most its own. So the first of equals stays, and a NaN
 -- is replaced and replaces.
-abbrev pub consider : Candidate → ℕ → Float → Candidate
-consider Nobody f r = Field f r
-consider (Field g q) f r = cond (le q r) (Field g q) (Field f r)
+abbrev pub consider : Option Candidate → ℕ → Float → Option Candidate
+consider None f r = Some (record { field = f; mnr = r })
+consider (Some c) f r = cond (le c.mnr r) (Some c) (Some (record { field = f; mnr = r }))
 
 -- the candidate among the first n fields: those that wait are considered in order
-abbrev pub best : Rules → List ℕ → List Bool → ℕ → Candidate
-best R places closed zero = Nobody
+abbrev pub best : Rules → List ℕ → List Bool → ℕ → Option Candidate
+best R places closed zero = None
 best R places closed (suc n) =
     cond (waits R places closed n)
     (consider (best R places closed n) n (R.mnr n (place_in places n)))
     (best R places closed n)
 
-abbrev pub candidate : Rules → Run → Candidate
+abbrev pub candidate : Rules → Run → Option Candidate
 candidate R s = best R s.places s.closed R.fields
 
 -- too dear: the field is closed where it stands
@@ -70,9 +69,9 @@ abbrev pub taken : Rules → ℕ → Run → Run
 taken R f s = taken_by f (price R f (place_in s.places f)) s
 
 -- a round: the candidate's turn; without one the run is over and nothing changes
-abbrev pub turn : Rules → Candidate → Run → Run
-turn R Nobody s = s
-turn R (Field f r) s = taken R f s
+abbrev pub turn : Rules → Option Candidate → Run → Run
+turn R None s = s
+turn R (Some c) s = taken R c.field s
 
 unfoldable pub round : Rules → Run → Run
 round R s = turn R (candidate R s) s
@@ -88,7 +87,7 @@ repeated R (suc k) s = repeated R k (round R s)
 -- rounds until there is no candidate, at most k of them
 unfoldable pub rounds : Rules → ℕ → Run → Run
 rounds R zero s = s
-rounds R (suc k) s = elim (candidate R s) [ Nobody ↦ s | Field f r ↦ rounds R k (taken R f s) ]
+rounds R (suc k) s = elim (candidate R s) [ None ↦ s | Some c ↦ rounds R k (taken R c.field s) ]
 
 -- the places above the fields that wait: each round takes at least one away
 unfoldable pub room : Rules → List ℕ → List Bool → ℕ → ℕ

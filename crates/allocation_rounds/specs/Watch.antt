@@ -1,21 +1,15 @@
 -- What `finish` keeps of each field beside the state, so that a round finds it in two lists: whether the field waits, and its ratio at its place.
 -- For the contracts of private functions alone: nothing that a caller has to believe stands here.
-use Rattle.std.specs.Prelude.{ℕ, zero, suc, ◌<◌, ◌≡◌, Bool, true, false, cond, List, [], Float, length, get_or}
+use Rattle.std.specs.Prelude.{ℕ, zero, suc, ◌<◌, ◌≡◌, Bool, true, false, cond, List, Float, Option, None, get_or}
 use Rattle.std.specs.Float.{nan}
 use Rattle.allocation_rounds.specs.declared.Candidate.{Candidate}
-use Rattle.allocation_rounds.specs.declared.Candidate.TheVariants.{Nobody}
 use Rattle.allocation_rounds.specs.Rounds.{Rules, place_in, waits, consider}
-use Rattle.allocation_rounds.specs.Lent.{lent}
 
 -- the candidate among the first n fields, by what is kept
-abbrev pub scanned : List Bool → List Float → ℕ → Candidate
-scanned waiting present zero = Nobody
+abbrev pub scanned : List Bool → List Float → ℕ → Option Candidate
+scanned waiting present zero = None
 scanned waiting present (suc n) =
     cond (get_or waiting n false) (consider (scanned waiting present n) n (get_or present n nan)) (scanned waiting present n)
-
--- the rules that are looked at: what is charged is not
-abbrev pub watching : List ℕ → List Float → Rules
-watching tops mnrs = lent 64 tops mnrs []
 
 -- what is kept of a field is true of the state
 pub record WatchedAt (R : Rules) (places : List ℕ) (closed waiting : List Bool) (present : List Float) (f : ℕ) : Type 0 where
@@ -24,15 +18,11 @@ pub record WatchedAt (R : Rules) (places : List ℕ) (closed waiting : List Bool
 
 -- and of each of the first n fields
 pub record Watched (R : Rules) (places : List ℕ) (closed : List Bool) (n : ℕ) (waiting : List Bool) (present : List Float) : Type 0 where
-  pub long : length waiting ≡ 64
-  pub wide : length present ≡ 64
   pub each : (f : ℕ) → f < n → WatchedAt R places closed waiting present f
 
 -- what is kept of one field is brought up to the state, and nothing else is touched
 pub record Rewatched (R : Rules) (places : List ℕ) (closed : List Bool) (f : ℕ) (waiting₀ : List Bool) (present₀ : List Float) (waiting : List Bool)
     (present : List Float) : Type 0 where
-  pub long : length waiting ≡ length waiting₀
-  pub wide : length present ≡ length present₀
   pub here : WatchedAt R places closed waiting present f
   pub else_flag : (g : ℕ) → (g ≡ f → ⊥) → get_or waiting g false ≡ get_or waiting₀ g false
   pub else_mnr : (g : ℕ) → (g ≡ f → ⊥) → get_or present g nan ≡ get_or present₀ g nan

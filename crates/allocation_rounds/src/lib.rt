@@ -1,172 +1,76 @@
 // The rounds of the bit allocation (ISO/IEC 11172-3 C.1.5.2.7) over any fields, whose rules are lent as tables.
 #![tactic(auto)]
 
-ghost use Rattle.std.specs.Prelude.{◌≡◌, [], ◌+◌, ◌*◌, ◌≤◌, ◌<◌, min, length, get_or};
+ghost use Rattle.std.specs.Prelude.{◌≡◌, ◌+◌, ◌*◌, ◌≤◌, ◌<◌, min, get_or};
 ghost use Rattle.std.specs.Float.{nan};
-ghost use Rattle.allocation_rounds.specs.Rounds.{price, place_in, closed_in, waits, consider, close_at, round, started, raised_by, taken_by};
-ghost use Rattle.allocation_rounds.specs.Lent.{lent};
+ghost use Rattle.allocation_rounds.specs.Rounds.{price, place_in, consider, close_at, round, started, raised_by, taken_by};
+ghost use Rattle.allocation_rounds.specs.Lent.{rules_in};
 ghost use Rattle.allocation_rounds.specs.Answers.{BestIs, Onward, Finished};
-ghost use Rattle.allocation_rounds.specs.Watch.{scanned, watching, Watched, Rewatched};
+ghost use Rattle.allocation_rounds.specs.Watch.{scanned, Watched, Rewatched};
 
-// The field whose turn it is, with its mask-to-noise ratio.
+// A field whose turn it may be, with its mask-to-noise ratio.
 #[derive(Clone, Copy)]
-pub enum Candidate {
-    Nobody,
-    Field(usize, f64),
+pub struct Candidate {
+    pub field: usize,
+    pub mnr: f64,
 }
 
 impl Candidate {
-    // The first of equals stays; a NaN is replaced and replaces. The early return compiles to a branch, not to a choice of
-    // two values that each field would wait for.
-    pub fn consider(mut self, field: usize, mnr: f64) -> Candidate
-        ensures { result ≡ consider self field mnr }
+    // The candidate once one field more is considered. The first of equals stays; a NaN is replaced and replaces. The early
+    // return compiles to a branch, not to a choice of two values that each field would wait for.
+    pub fn consider(found: Option<Candidate>, field: usize, mnr: f64) -> Option<Candidate>
+        ensures { result ≡ consider found field mnr }
     {
-        match self {
-            Candidate::Field(held, least) => {
-                if least <= mnr {
-                    return Candidate::Field(held, least);
-                }
+        if let Some(held) = found {
+            if held.mnr <= mnr {
+                return Some(held);
             }
-            Candidate::Nobody => {}
         }
-        self = Candidate::Field(field, mnr);
-        self
+        Some(Candidate { field, mnr })
     }
 }
 
-// Whether a field is closed. Lent as a slice, the flags are known to be 64.
-fn is_closed(closed: &[bool], field: usize) -> bool
-    requires { field < length closed.now }
-    ensures { result ≡ closed_in closed.now field }
-{
-    closed[field]
-}
-
-// A field's top place: at most 15.
-fn top_of(tops: &[u8; 64], field: usize) -> u8
-    requires { field < 64 }
-    ensures { result ≡ min (get_or tops.now field 0) 15 }
-{
-    let top = tops[field];
-    if top < 15 { top } else { 15 }
-}
-
-// Whether a field waits: it is open and below its top place.
-fn is_waiting(places: &[u8; 64], closed: &[bool; 64], tops: &[u8; 64], field: usize) -> bool
-    requires { field < 64 }
-    ensures { result ≡ waits (lent 64 tops.now [] []) places.now closed.now field }
-{
-    if is_closed(closed, field) {
-        return false;
-    }
-    places[field] < top_of(tops, field)
-}
-
-// The ratio of a field at its place.
-fn mnr_of(places: &[u8; 64], mnrs: &[f64; 1024], field: usize) -> f64
-    requires { (field < 64) × (place_in places.now field < 15) }
-    ensures { result ≡ get_or mnrs.now (16 * field + place_in places.now field) nan }
-{
-    let place = places[field] as usize;
-    mnrs[16 * field + place]
-}
-
-// How many fields are considered: at most 64.
-fn considered(fields: usize) -> usize
-    ensures { result ≡ min fields 64 }
-{
-    if fields < 64 { fields } else { 64 }
-}
-
-// The candidate among the fields: the first of those that wait with the least ratio.
-pub fn best<'a>(
-    places: &'a [u8; 64],
-    closed: &'a [bool; 64],
-    fields: usize,
-    tops: &[u8; 64],
-    mnrs: &[f64; 1024],
-) -> Candidate
-    ensures { BestIs places.now closed.now fields tops.now mnrs.now result }
-{
-    let end = considered(fields);
-    let mut found = Candidate::Nobody;
-    let mut field: usize = 0;
-    while field < end {
-        if is_waiting(places, closed, tops, field) {
-            let mnr = mnr_of(places, mnrs, field);
-            found = found.consider(field, mnr);
-        }
-        field = field + 1;
-    }
-    found
-}
-
-// Brings what is kept of a field up to the state: whether it waits, and its ratio at its place.
-fn watch<'a>(
-    places: &'a [u8; 64],
-    closed: &'a [bool; 64],
-    tops: &[u8; 64],
-    mnrs: &[f64; 1024],
+// The step that leaves a place of a field: the field is one of 64, and the place has one above it.
+#[derive(Clone, Copy)]
+struct Step {
     field: usize,
-    waiting: &mut [bool; 64],
-    present: &mut [f64; 64],
-)
-    requires { (field < 64) × (length waiting.old ≡ 64) × (length present.old ≡ 64) }
-    ensures { Rewatched (watching tops.now mnrs.now) places.now closed.now field waiting.old present.old waiting.new present.new }
-{
-    let waits = is_waiting(places, closed, tops, field);
-    waiting[field] = waits;
-    if waits {
-        present[field] = mnr_of(places, mnrs, field);
-    }
+    place: usize,
+    ghost in_fields: { field < 64 },
+    ghost in_places: { place < 15 },
 }
 
-// The same for each of the first fields.
-fn watch_all<'a>(
-    places: &'a [u8; 64],
-    closed: &'a [bool; 64],
-    tops: &[u8; 64],
-    mnrs: &[f64; 1024],
-    end: usize,
-    waiting: &mut [bool; 64],
-    present: &mut [f64; 64],
-)
-    requires { (end ≤ 64) × (length waiting.old ≡ 64) × (length present.old ≡ 64) }
-    ensures { Watched (watching tops.now mnrs.now) places.now closed.now end waiting.new present.new }
-{
-    let mut field: usize = 0;
-    while field < end {
-        watch(places, closed, tops, mnrs, field, waiting, present);
-        field = field + 1;
-    }
+// The rules as tables: how many fields there are, the top place of each, and sixteen ratios and sixteen charges to a field, of its
+// places 0 to 15.
+#[derive(Clone, Copy)]
+pub struct Tables {
+    pub fields: usize,
+    pub tops: [u8; 64],
+    pub mnrs: [f64; 1024],
+    pub charges: [u32; 1024],
 }
 
-// The candidate among the fields, by what is kept of them.
-fn candidate_among(waiting: &[bool; 64], present: &[f64; 64], end: usize) -> Candidate
-    requires { end ≤ 64 }
-    ensures { result ≡ scanned waiting.now present.now end }
-{
-    let mut found = Candidate::Nobody;
-    let mut field: usize = 0;
-    while field < end {
-        if waiting[field] {
-            found = found.consider(field, present[field]);
-        }
-        field = field + 1;
+impl Tables {
+    // How many fields are considered: at most 64.
+    fn considered(&self) -> usize
+        ensures { result ≡ min self.now.fields 64 }
+    {
+        self.fields.min(64)
     }
-    found
-}
 
-// The price of a field's next step: what is charged more at the next place.
-fn price_of(places: &[u8; 64], charges: &[u32; 1024], field: usize) -> u32
-    requires { (field < 64) × (place_in places.now field < 15) }
-    ensures { result ≡ price (lent 64 [] [] charges.now) field (place_in places.now field) }
-{
-    let place = places[field] as usize;
-    let at = 16 * field + place;
-    let charged = charges[at];
-    let next = charges[at + 1];
-    if charged <= next { next - charged } else { 0 }
+    // The ratio at the place that the step leaves.
+    fn mnr(&self, step: Step) -> f64
+        ensures { result ≡ get_or self.now.mnrs (16 * step.field + step.place) nan }
+    {
+        self.mnrs[16 * step.field + step.place]
+    }
+
+    // The price of the step: what is charged more at the next place, and nothing where the charges fall.
+    fn price(&self, step: Step) -> u32
+        ensures { result ≡ price (rules_in self.now) step.field step.place }
+    {
+        let at = 16 * step.field + step.place;
+        self.charges[at + 1].saturating_sub(self.charges[at])
+    }
 }
 
 // The state of a run, by field: the place at which it stands and whether it is closed; and the bits left.
@@ -189,95 +93,133 @@ impl Run {
         }
     }
 
-    // The field stays where it stands.
-    fn close(mut self, field: usize) -> Run
-        requires { field < 64 }
-        ensures { result ≡ close_at field self }
+    // The candidate among the fields: the first of those that wait with the least ratio.
+    pub fn best(&self, tables: &Tables) -> Option<Candidate>
+        ensures { BestIs self.now.places self.now.closed tables.now.fields tables.now.tops tables.now.mnrs result }
     {
-        self.closed[field] = true;
+        let end = tables.considered();
+        let watch = Watch::over(self, tables, end);
+        watch.best(end)
+    }
+
+    // The field stays where it stands.
+    fn close(mut self, step: Step) -> Run
+        ensures { result ≡ close_at step.field self }
+    {
+        self.closed[step.field] = true;
         self
     }
 
     // The field rises by one place, and the price is taken.
-    fn raise(mut self, field: usize, price: u32) -> Run
-        requires { (field < 64) × (place_in self.places field < 15) × (price ≤ self.left) }
-        ensures { result ≡ raised_by field price self }
+    fn raise(mut self, step: Step, price: u32) -> Run
+        requires { (place_in self.places step.field ≡ step.place) × (price ≤ self.left) }
+        ensures { result ≡ raised_by step.field price self }
     {
-        self.places[field] = self.places[field] + 1;
-        self.left = self.left - price;
+        self.places[step.field] += 1;
+        self.left -= price;
         self
     }
 
     // The candidate's turn: too dear closes it, else it rises.
-    fn taken(self, field: usize, price: u32) -> Run
-        requires { (field < 64) × (place_in self.places field < 15) }
-        ensures { result ≡ taken_by field price self }
+    fn taken(self, step: Step, price: u32) -> Run
+        requires { place_in self.places step.field ≡ step.place }
+        ensures { result ≡ taken_by step.field price self }
     {
         if price <= self.left {
-            self.raise(field, price)
+            self.raise(step, price)
         } else {
-            self.close(field)
+            self.close(step)
         }
     }
 
-    // One round.
-    pub fn step(
-        mut self,
-        fields: usize,
-        tops: &[u8; 64],
-        mnrs: &[f64; 1024],
-        charges: &[u32; 1024],
-    ) -> Run
-        ensures { Onward self (round (lent fields tops.now mnrs.now charges.now) self) result }
+    // The step of a field from the place at which it stands.
+    fn step_of(&self, field: usize) -> Step
+        requires { (field < 64) × (place_in self.now.places field < 15) }
+        ensures { (result.field ≡ field) × (result.place ≡ place_in self.now.places field) }
     {
-        let found = best(&self.places, &self.closed, fields, tops, mnrs);
-        let Candidate::Field(field, _) = found else {
+        let place = usize::from(self.places[field]);
+        Step { field, place }
+    }
+
+    // One round.
+    pub fn step(mut self, tables: &Tables) -> Run
+        ensures { Onward self (round (rules_in tables.now) self) result }
+    {
+        let Some(found) = self.best(tables) else {
             return self;
         };
-        let price = price_of(&self.places, charges, field);
-        self = self.taken(field, price);
+        let step = self.step_of(found.field);
+        let price = tables.price(step);
+        self = self.taken(step, price);
         self
     }
 
     // Rounds until there is no candidate: `step`, repeated until it changes nothing.
-    pub fn finish(
-        self,
-        fields: usize,
-        tops: &[u8; 64],
-        mnrs: &[f64; 1024],
-        charges: &[u32; 1024],
-    ) -> Run
-        ensures { Finished (lent fields tops.now mnrs.now charges.now) self result }
+    pub fn finish(self, tables: &Tables) -> Run
+        ensures { Finished (rules_in tables.now) self result }
     {
         let mut run = self;
-        let end = considered(fields);
-        let mut waiting = [false; 64];
-        let mut present = [0.0; 64];
-        watch_all(
-            &run.places,
-            &run.closed,
-            tops,
-            mnrs,
-            end,
-            &mut waiting,
-            &mut present,
-        );
-        loop {
-            let found = candidate_among(&waiting, &present, end);
-            let Candidate::Field(field, _) = found else {
-                return run;
-            };
-            let price = price_of(&run.places, charges, field);
-            run = run.taken(field, price);
-            watch(
-                &run.places,
-                &run.closed,
-                tops,
-                mnrs,
-                field,
-                &mut waiting,
-                &mut present,
-            );
+        let end = tables.considered();
+        let mut watch = Watch::over(&run, tables, end);
+        while let Some(found) = watch.best(end) {
+            let step = run.step_of(found.field);
+            let price = tables.price(step);
+            run = run.taken(step, price);
+            watch.update(&run, tables, found.field);
         }
+        run
+    }
+}
+
+// What is kept of each field beside the state, so that a round finds it in two short arrays: whether the field waits, and its ratio
+// at its place. With one array of `Option<f64>` the rounds took about a tenth longer.
+#[derive(Clone, Copy)]
+struct Watch {
+    waiting: [bool; 64],
+    present: [f64; 64],
+}
+
+impl Watch {
+    // Of the first fields of a state.
+    fn over(run: &Run, tables: &Tables, end: usize) -> Watch
+        requires { end ≤ 64 }
+        ensures { Watched (rules_in tables.now) run.now.places run.now.closed end result.waiting result.present }
+    {
+        let mut watch = Watch {
+            waiting: [false; 64],
+            present: [0.0; 64],
+        };
+        for field in 0..end {
+            watch.update(run, tables, field);
+        }
+        watch
+    }
+
+    // Brings what is kept of a field up to the state.
+    fn update(&mut self, run: &Run, tables: &Tables, field: usize)
+        requires { field < 64 }
+        ensures { Rewatched (rules_in tables.now) run.now.places run.now.closed field self.old.waiting self.old.present self.new.waiting self.new.present }
+    {
+        let place = run.places[field];
+        let waits = !run.closed[field] && place < tables.tops[field].min(15);
+        self.waiting[field] = waits;
+        if waits {
+            let place = usize::from(place);
+            self.present[field] = tables.mnr(Step { field, place });
+        }
+    }
+
+    // The candidate among the first fields, by what is kept of them.
+    fn best(&self, end: usize) -> Option<Candidate>
+        requires { end ≤ 64 }
+        ensures { result ≡ scanned self.now.waiting self.now.present end }
+    {
+        let mut found = None;
+        for field in 0..end {
+            if self.waiting[field] {
+                found = Candidate::consider(found, field, self.present[field]);
+            }
+        }
+        found
     }
 }

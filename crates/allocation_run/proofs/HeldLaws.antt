@@ -1,7 +1,7 @@
 -- From the places that the fields reach to the steps of the slots.
+use Rattle.std.specs.Prelude.{None, Some}
 use mathlib.Core.Path.{◌≡◌, sym, ap, ap₂, ◌∙◌}
 use mathlib.Core.List.{List}
-use mathlib.Core.Option.{none, some}
 use Prim.Native.Nat.{ℕ, ◌+◌, ◌*◌, ◌/◌, ◌%◌, ◌≤◌, ◌<◌}
 use native.Mathlib.Nat.{le_trans}
 use native.Mathlib.Omega.{arith}
@@ -43,15 +43,15 @@ module _ (l : Layout) (places : List ℕ) where
 
 -- ---- what the code finds for a slot
 
-pub steps_found_lem : (l : Layout) (places : List ℕ) (ch sb f : ℕ) (row : List ℕ) → served_by l ch sb ≡ some f → place_in places f < 16 → row ≡ row_of16 l.table sb
+pub steps_found_lem : (l : Layout) (places : List ℕ) (ch sb f : ℕ) (row : List ℕ) → served_by l ch sb ≡ Some f → place_in places f < 16 → row ≡ row_of16 l.table sb
     → get_or row (place_in places f) 0 ≡ steps_held l places ch sb
 steps_found_lem l places ch sb f row e s r =
     row_number_lem l.table sb (place_in places f) row r s ∙ sym (ap (steps_by l.table places sb) e)
 
 -- no row has a place above 15
-pub steps_past : (l : Layout) (places : List ℕ) (ch sb f : ℕ) → served_by l ch sb ≡ some f → 16 ≤ place_in places f → 0 ≡ steps_held l places ch sb
+pub steps_past : (l : Layout) (places : List ℕ) (ch sb f : ℕ) → served_by l ch sb ≡ Some f → 16 ≤ place_in places f → 0 ≡ steps_held l places ch sb
 steps_past l places ch sb f e h =
     sym (get_or-eq_default (row_of l.table sb) 0 {n = place_in places f} (le_trans (places_small l.table sb) h)) ∙ sym (ap (steps_by l.table places sb) e)
 
-pub steps_none : (l : Layout) (places : List ℕ) (ch sb : ℕ) → served_by l ch sb ≡ none → 0 ≡ steps_held l places ch sb
+pub steps_none : (l : Layout) (places : List ℕ) (ch sb : ℕ) → served_by l ch sb ≡ None → 0 ≡ steps_held l places ch sb
 steps_none l places ch sb e = sym (ap (steps_by l.table places sb) e)

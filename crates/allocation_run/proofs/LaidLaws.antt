@@ -1,8 +1,8 @@
 -- What the code computes for one field and one place is what the definitions have there, and the tables that it lays out are the rules.
+use Rattle.std.specs.Prelude.{Option, None, Some}
 use mathlib.Core.Path.{◌≡◌, sym, ap, ap₂, ◌∙◌, subst}
-use mathlib.Core.Bool.{true, false}
 use mathlib.Core.List.{List, []}
-use Prim.Native.Nat.{ℕ, ◌+◌, ◌*◌, ◌≤◌, ◌<◌}
+use Prim.Native.Nat.{ℕ, ◌+◌, ◌-◌, ◌*◌, ◌≤◌, ◌<◌}
 use native.Mathlib.Nat.{not-suc-le-zero}
 use native.Mathlib.Decide.{dec_lt, ℕ_discrete}
 use native.Mathlib.Omega.{arith}
@@ -10,9 +10,8 @@ use lib.Dec.{lit≤}
 use lib.Ieee.{Float, nan, binary64, sub, div, of_bits}
 use lib.ListN.{length, get_or, set, length-set, get_or-eq_default}
 use lib.Seq.{get_or-set_same, get_or-set_other}
-use borrow.Author.Tests.{eq-eqb, ne_eqb}
-use Rattle.tables.proofs.Listed.{tabulated, length_tabulate}
-use Rattle.ieee_order.specs.Order.{min_of}
+use borrow.Author.Tests.{ne_eqb}
+use Rattle.tables.proofs.Listed.{tabulated, length_tabulate, filled}
 use Rattle.bitalloc.specs.Tables.{row_of}
 use Rattle.bitalloc.specs.Storage.{row_of16}
 use Rattle.quantization.specs.Classes.{SampleBitsAre}
@@ -21,37 +20,24 @@ use Rattle.layout.specs.declared.Layout.{Layout}
 use Rattle.layout.specs.declared.AllocationField.{AllocationField}
 use Rattle.layout.specs.Layout.{fields_of, field_in, FieldIs}
 use Rattle.layout.proofs.FieldLaws.{few}
-use Rattle.encoder_bit_demand.specs.declared.OptionF64.{OptionF64}
-use Rattle.encoder_bit_demand.specs.declared.OptionF64.TheVariants.{Some, None}
-use Rattle.encoder_bit_demand.specs.Snr.{snr_of, or_nan, snr_in}
-use Rattle.encoder_bit_demand.specs.Demand.{smr_at, smrs_of}
+use Rattle.encoder_bit_demand.specs.Snr.{snr_of, or_nan}
+use Rattle.encoder_bit_demand.specs.Demand.{smrs_of}
 use Rattle.allocation_run.specs.Entries.{Entry, slot_mnr, mnr_of, mnr_at, charge, charge_at, entry_in, entry_of, entries_of, ChargeIs}
-use Rattle.allocation_run.specs.Laid.{LaidOut}
+use Rattle.allocation_run.specs.Laid.{LaidOut, TopsTo}
 
 -- ---- a slot, and a field
 
-pub slot_found : (steps : ℕ) (smr x : Float) (r : OptionF64) → (steps ≡ 0 → ⊥) → snr_in r ≡ snr_of steps → r ≡ Some x
+pub slot_found : (steps : ℕ) (smr x : Float) (r : Option Float) → (steps ≡ 0 → ⊥) → r ≡ snr_of steps → r ≡ Some x
     → sub binary64 x smr ≡ slot_mnr steps smr
 slot_found steps smr x r z e q =
-    rw (ne_eqb steps 0 z) (ap (λ (y : Float). sub binary64 y smr) (ap or_nan (sym (ap snr_in q) ∙ e)))
+    rw (ne_eqb steps 0 z) (ap (λ (y : Float). sub binary64 y smr) (ap or_nan (sym q ∙ e)))
 
 -- of steps that Table C.5 lacks nothing is known
-pub slot_unknown : (steps : ℕ) (smr : Float) (r : OptionF64) → (steps ≡ 0 → ⊥) → snr_in r ≡ snr_of steps → r ≡ None
+pub slot_unknown : (steps : ℕ) (smr : Float) (r : Option Float) → (steps ≡ 0 → ⊥) → r ≡ snr_of steps → r ≡ None
     → div binary64 (of_bits binary64 0) (of_bits binary64 0) ≡ slot_mnr steps smr
 unfolding div of_bits sub
 slot_unknown steps smr r z e q =
-    rw (ne_eqb steps 0 z) (ap (λ (y : Float). sub binary64 y smr) (ap or_nan (sym (ap snr_in q) ∙ e)))
-
-pub mnr_both : (smr : List (List Float)) (x : AllocationField) (steps : ℕ) (a b r : Float) → x.both ≡ true
-    → a ≡ slot_mnr steps (smr_at smr 0 x.subband) → b ≡ slot_mnr steps (smr_at smr 1 x.subband) → r ≡ min_of a b → r ≡ mnr_of (smrs_of smr x) steps
-mnr_both smr x steps a b r e p q m = rw e (m ∙ ap₂ min_of p q)
-
-pub mnr_one : (smr : List (List Float)) (x : AllocationField) (steps : ℕ) (r : Float) → x.both ≡ false
-    → r ≡ slot_mnr steps (smr_at smr x.channel x.subband) → r ≡ mnr_of (smrs_of smr x) steps
-mnr_one smr x steps r e p = rw e p
-
-pub no_charge : (steps first : ℕ) → steps ≡ 0 → ChargeIs steps first 0
-no_charge steps first e = record { whole = rw (eq-eqb steps 0 e); most = omega arith }
+    rw (ne_eqb steps 0 z) (ap (λ (y : Float). sub binary64 y smr) (ap or_nan (sym q ∙ e)))
 
 pub some_charge : (steps first bits : ℕ) → (steps ≡ 0 → ⊥) → SampleBitsAre steps bits → ChargeIs steps first (bits + first)
 some_charge steps first bits z b = record { whole = rw (ne_eqb steps 0 z) (ap (λ (n : ℕ). n + first) b.whole); most = let m = b.small in omega arith }
@@ -97,9 +83,6 @@ one_more v room xs f p a d small s h e b g q r l = go (ℕ_discrete (16 * g + q)
     go (no i) = get_or-set_other xs (16 * f + p) (16 * g + q) a d (λ j. i j) ∙ b g q r (omega arith)
 
 module _ (es : List Entry) (room : (g : ℕ) → length (entry_in es g).row ≤ 16) (f : ℕ) (mnrs : List Float) (charges : List ℕ) where
-  pub field_begun : LaidOut es (16 * f) mnrs charges → LaidOut es (16 * f + 0) mnrs charges
-  field_begun = subst (λ (n : ℕ). LaidOut es n mnrs charges) (let z : 16 * f ≡ 16 * f + 0 = omega arith in z)
-
   pub one_more_laid : (p : ℕ) (r : Float) (n : ℕ) → LaidOut es (16 * f + p) mnrs charges → p < 16 → f < 64
       → r ≡ mnr_at (entry_in es f) p → n ≡ charge_at (entry_in es f) p
       → LaidOut es (16 * f + (p + 1)) (set mnrs (16 * f + p) r) (set charges (16 * f + p) n)
@@ -143,9 +126,6 @@ module _ (l : Layout) (smr : List (List Float)) (costs : List ℕ) (f : ℕ) (x 
   at_field : entry_in es f ≡ entry_of l.table smr x first
   at_field = entry_at l smr costs f begun.there ∙ ap₂ (entry_of l.table smr) (sym begun.is.whole) (sym begun.cost)
 
-  pub begin : LaidOut es (16 * f) mnrs charges → LaidOut es (16 * f + 0) mnrs charges
-  begin = field_begun es (room l smr costs) f mnrs charges
-
   pub go_on : (p : ℕ) (r : Float) (n : ℕ) → LaidOut es (16 * f + p) mnrs charges → p < 16
       → r ≡ mnr_of (smrs_of smr x) (get_or row p 0) → n ≡ charge (get_or row p 0) first
       → LaidOut es (16 * f + (p + 1)) (set mnrs (16 * f + p) r) (set charges (16 * f + p) n)
@@ -159,3 +139,12 @@ module _ (l : Layout) (smr : List (List Float)) (costs : List ℕ) (f : ℕ) (x 
 
   pub end : (p : ℕ) → LaidOut es (16 * f + p) mnrs charges → length (row_of l.table x.subband) ≤ p → LaidOut es (16 * (f + 1)) mnrs charges
   end p laid h = field_laid es (room l smr costs) f mnrs charges p laid (subst (λ (e : Entry). length e.row ≤ p) (sym at_field) h)
+
+-- ---- the top places
+
+pub topped : (l : Layout) (tops tops₀ : List ℕ) (n top : ℕ) → tops ≡ set tops₀ n top → TopsTo l n tops₀ → n < length tops₀
+    → {x : AllocationField} → x ≡ field_in (fields_of l) n → (places : ℕ) → places ≡ length (row_of l.table x.subband) → top ≡ places - 1 → TopsTo l (n + 1) tops
+unfolding TopsTo
+topped l tops tops₀ n top e b h i places q t =
+    rw e (filled (λ k v. v ≡ length (row_of l.table (field_in (fields_of l) k).subband) - 1) tops₀ n top 0 h b
+    (t ∙ ap (λ (m : ℕ). m - 1) q ∙ ap (λ (x : AllocationField). length (row_of l.table x.subband) - 1) i))

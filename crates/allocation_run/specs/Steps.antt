@@ -1,6 +1,5 @@
 -- Where the rounds end over the fields of a layout, and the steps that the slots then have.
-use Rattle.std.specs.Prelude.{ℕ, List, Float, get_or}
-use Rattle.std.proofs.Math.Option.{Option, none, some}
+use Rattle.std.specs.Prelude.{ℕ, List, Float, get_or, Option, None, Some}
 use Rattle.tables.specs.Listed.{tabulate}
 use Rattle.bitalloc.specs.declared.BitAllocTable.{BitAllocTable}
 use Rattle.bitalloc.specs.Tables.{row_of}
@@ -18,8 +17,8 @@ run_of l smr costs offered = ended (rules_of (entries_of l smr costs)) (started 
 
 -- the steps of a slot: those at the place of the field that serves it, and 0 where none does
 abbrev pub steps_by : BitAllocTable → List ℕ → ℕ → Option ℕ → ℕ
-steps_by t places sb none = 0
-steps_by t places sb (some f) = get_or (row_of t sb) (place_in places f) 0
+steps_by t places sb None = 0
+steps_by t places sb (Some f) = get_or (row_of t sb) (place_in places f) 0
 
 abbrev pub steps_held : Layout → List ℕ → ℕ → ℕ → ℕ
 steps_held l places ch sb = steps_by l.table places sb (served_by l ch sb)

@@ -1,8 +1,8 @@
 -- Every question of the writer is answered yes of the steps that an allocation ends at.
+use Rattle.std.specs.Prelude.{Option, None, Some, option_map, is_some}
 use mathlib.Core.Path.{◌≡◌, refl, sym, ap₂, ◌∙◌, subst}
 use mathlib.Core.Bool.{Bool, true, false, cond, ◌&&◌}
 use mathlib.Core.List.{List, [], ◌∷◌}
-use mathlib.Core.Option.{Option, none, some, map}
 use Prim.Native.Nat.{ℕ, zero, suc, ◌+◌, ◌*◌, ◌≤◌, ◌<◌}
 use native.Mathlib.Nat.{not-suc-le-zero, le_of_suc-le-suc}
 use native.Mathlib.Decide.{dec_lt}
@@ -13,7 +13,6 @@ use lib.ListN.{length, get_or, get_or-eq_default}
 use borrow.Author.Tests.{eq-eqb, le-leb}
 use Rattle.tables.specs.Search.{place}
 use Rattle.header.specs.Questions.{number}
-use Rattle.bitalloc.specs.Options.{is_some}
 use Rattle.bitalloc.specs.Tables.{row_of, index_of}
 use Rattle.layout.specs.declared.Layout.{Layout}
 use Rattle.layout.specs.Layout.{own, served, fields_of, field_in, field_steps}
@@ -28,16 +27,16 @@ use Rattle.side_info.proofs.AskedLaws.{FieldYes, record_passes}
 
 -- ---- a number that a list has is found
 
-some_is : (o : Option ℕ) → is_some o ≡ true → is_some (map suc o) ≡ true
-some_is none e = e
-some_is (some n) e = refl
+some_is : (o : Option ℕ) → is_some o ≡ true → is_some (option_map suc o) ≡ true
+some_is None e = e
+some_is (Some n) e = refl
 
 found : (n : ℕ) (row : List ℕ) (i : ℕ) → i < length row → get_or row i 0 ≡ n → is_some (place (λ m. eqb m n) row) ≡ true
 found n [] i h e = absurd (not-suc-le-zero h)
 found n (m ∷ row) zero h e = rw (eq-eqb m n e)
 found n (m ∷ row) (suc i) h e = go (eqb m n) (found n row i (le_of_suc-le-suc h) e)
   where
-    go : (b : Bool) → is_some (place (λ k. eqb k n) row) ≡ true → is_some (cond b (some 0) (map suc (place (λ k. eqb k n) row))) ≡ true
+    go : (b : Bool) → is_some (place (λ k. eqb k n) row) ≡ true → is_some (cond b (Some 0) (option_map suc (place (λ k. eqb k n) row))) ≡ true
     go true r = refl
     go false r = some_is (place (λ k. eqb k n) row) r
 

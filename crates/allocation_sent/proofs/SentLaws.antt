@@ -1,8 +1,8 @@
 -- What an allocation accepts passes the check, and can be sent.
+use Rattle.std.specs.Prelude.{Option, None, Some, is_some, Ok}
 use mathlib.Core.Path.{◌≡◌, refl, sym, ap, ◌∙◌, subst}
 use mathlib.Core.Bool.{true≢false, false}
 use mathlib.Core.List.{List}
-use mathlib.Core.Option.{Option, none, some}
 use Prim.Native.Nat.{ℕ, ◌+◌, ◌≤◌, ◌<◌}
 use native.Mathlib.Omega.{arith}
 use lib.Ieee.{Float}
@@ -11,7 +11,6 @@ use Rattle.tables.proofs.Listed.{blank, map_at}
 use Rattle.header.specs.declared.FrameHeader.{FrameHeader}
 use Rattle.header.specs.Questions.{number}
 use Rattle.header.proofs.QuestionLaws.{behind, all_yes}
-use Rattle.bitalloc.specs.Options.{is_some}
 use Rattle.layout.specs.declared.Layout.{Layout}
 use Rattle.layout.specs.Slots.{slot_of, channel_in, subband_in}
 use Rattle.layout.specs.Layout.{own, layout_of, fields_of, field_in}
@@ -23,14 +22,12 @@ use Rattle.audio_data.specs.Scfsi.{Agrees}
 use Rattle.audio_data.specs.Record.{fresh}
 use Rattle.encoder_bit_budget.specs.declared.Request.{Request}
 use Rattle.encoder_bit_budget.specs.declared.FixedBitBudget.{FixedBitBudget}
-use Rattle.encoder_bit_budget.specs.declared.Budget.TheVariants.{Ok}
 use Rattle.encoder_bit_budget.specs.Budget.{header_asked, cb_of, crc_bits, allocation_bits, budget_with, budget_under, budget_in, budget_of, layout_in, fixed_in, offered_of, natural}
 use Rattle.encoder_bit_budget.proofs.BudgetLaws.{refusing_header, answer_is, accepted_is, table_is, layout_is}
 use Rattle.encoder_bit_budget.proofs.AvailableLaws.{natural_minus}
 use Rattle.encoder_bit_demand.specs.Demand.{first_step}
 use Rattle.allocation_worth.specs.Worth.{Worth}
-use Rattle.encoder_bit_allocator.specs.declared.Allocation.{Allocation}
-use Rattle.encoder_bit_allocator.specs.Allocation.{worst_case, accepted, allocation_in, allocation_of, AllocationIs}
+use Rattle.encoder_bit_allocator.specs.Allocation.{AllocationAnswer, worst_case, accepted, allocation_in, allocation_of, AllocationIs}
 use Rattle.encoder_bit_allocator.proofs.AnswerLaws.{asked_zero, number_is}
 use Rattle.side_info.specs.SideInfo.{SideInfo, side_info, scalefactors_in, header_layout, or_b2a, record_asked, idle_scfsi}
 use Rattle.record_check.specs.Together.{StepsCarried}
@@ -76,21 +73,21 @@ module _ (q : Request) (z : number (header_asked q.header) ≡ 0) where
       }
 
 -- what an accepted allocation has: a header that is accepted, bits for the fixed ones and the caller's, and its worth in the header's layout
-record Accepted (q : Request) (smr : List (List Float)) (a : Allocation) : Type 0 where
+record Accepted (q : Request) (smr : List (List Float)) (a : AllocationAnswer) : Type 0 where
   pub header : number (header_asked q.header) ≡ 0
   pub enough : fixed_in (budget_of q).budget + q.banc ≤ (budget_of q).budget.cb
   pub worth : Worth (header_layout q.header) smr (worst_case (header_layout q.header)) (natural (offered_of q)) a.audio.nb_steps a.left
 
-has_accepted : (q : Request) (smr : List (List Float)) (a : Allocation) → AllocationIs q smr a → a.number ≡ 0 → Accepted q smr a
+has_accepted : (q : Request) (smr : List (List Float)) (a : AllocationAnswer) → AllocationIs q smr a → a.number ≡ 0 → Accepted q smr a
 has_accepted q smr a is zero =
-    let yes = asked_zero q (sym (number_is q smr) ∙ sym (ap (λ (v : Allocation). v.number) is.whole) ∙ zero) in
+    let yes = asked_zero q (sym (number_is q smr) ∙ sym (ap (λ (v : AllocationAnswer). v.number) is.whole) ∙ zero) in
     record {
       header = yes.0;
       enough = yes.1;
       worth = subst (λ (k : Layout). Worth k smr (worst_case k) (natural (offered_of q)) a.audio.nb_steps a.left) (parts q yes.0).layout (is.worth zero);
     }
 
-pub can_be_sent : (q : Request) (smr : List (List Float)) (a : Allocation) → CanBeSent q smr a
+pub can_be_sent : (q : Request) (smr : List (List Float)) (a : AllocationAnswer) → CanBeSent q smr a
 can_be_sent q smr a = record {
   sent = λ is zero scfsi scalefactors small w i.
       let steps = a.audio.nb_steps in
@@ -120,29 +117,29 @@ can_be_sent q smr a = record {
 -- ---- the check
 
 -- every scfsi of an accepted record is that of three scalefactors
-plain_scfsi : (q : Request) (smr : List (List Float)) (a : Allocation) → a ≡ allocation_of q smr → a.number ≡ 0
+plain_scfsi : (q : Request) (smr : List (List Float)) (a : AllocationAnswer) → a ≡ allocation_of q smr → a.number ≡ 0
     → a.audio.scfsi ≡ replicate 64 idle_scfsi
 unfolding allocation_of allocation_in accepted fresh
 plain_scfsi q smr a e zero =
-    ap (λ (v : Allocation). v.audio.scfsi) e
-    ∙ ap (λ (n : ℕ). (allocation_in (budget_of q).budget smr q.banc n).audio.scfsi) (sym (number_is q smr) ∙ sym (ap (λ (v : Allocation). v.number) e) ∙ zero)
+    ap (λ (v : AllocationAnswer). v.audio.scfsi) e
+    ∙ ap (λ (n : ℕ). (allocation_in (budget_of q).budget smr q.banc n).audio.scfsi) (sym (number_is q smr) ∙ sym (ap (λ (v : AllocationAnswer). v.number) e) ∙ zero)
 
 all_three : (scfsi : List ScfsiSlot) → scfsi ≡ replicate 64 idle_scfsi → (slot : ℕ) → (get_or scfsi slot idle_scfsi).scfsi ≡ ThreePerGranule
 all_three scfsi e slot = ap (λ (xs : List ScfsiSlot). (get_or xs slot idle_scfsi).scfsi) e ∙ ap (λ (v : ScfsiSlot). v.scfsi) (blank 64 idle_scfsi slot)
 
 -- no steps where no field serves the slot
-carried_steps : (q : Request) (smr : List (List Float)) (a : Allocation) → Accepted q smr a → (slot : ℕ) → slot < 64
+carried_steps : (q : Request) (smr : List (List Float)) (a : AllocationAnswer) → Accepted q smr a → (slot : ℕ) → slot < 64
     → StepsCarried (header_layout q.header) (side_info a.audio.nb_steps a.audio.scfsi a.audio.scalefactor) slot
 carried_steps q smr a has slot h none-carries =
     let whole : slot_of (channel_in slot) (subband_in slot) ≡ slot = omega arith in
     ap (λ (k : ℕ). get_or a.audio.nb_steps k 0) (sym whole)
     ∙ has.worth.elsewhere (channel_in slot) (subband_in slot) (omega arith) (omega arith) (not_some _ (sym (slot_served (header_layout q.header) slot) ∙ none-carries))
   where
-    not_some : (o : Option ℕ) → is_some o ≡ false → o ≡ none
-    not_some none e = refl
-    not_some (some n) e = absurd (true≢false e)
+    not_some : (o : Option ℕ) → is_some o ≡ false → o ≡ None
+    not_some None e = refl
+    not_some (Some n) e = absurd (true≢false e)
 
-pub allocation_passes : (q : Request) (smr : List (List Float)) (a : Allocation) → AllocationPasses q smr a
+pub allocation_passes : (q : Request) (smr : List (List Float)) (a : AllocationAnswer) → AllocationPasses q smr a
 allocation_passes q smr a = record {
   passes = λ is zero c check.
       let s = side_info a.audio.nb_steps a.audio.scfsi a.audio.scalefactor in

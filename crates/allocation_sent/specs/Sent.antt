@@ -7,8 +7,7 @@ use Rattle.layout.specs.Layout.{fields_of, field_steps, sum_over}
 use Rattle.audio_data.specs.declared.ScfsiSlot.{ScfsiSlot}
 use Rattle.encoder_bit_budget.specs.declared.Request.{Request}
 use Rattle.encoder_bit_budget.specs.Budget.{cb_of, crc_bits}
-use Rattle.encoder_bit_allocator.specs.declared.Allocation.{Allocation}
-use Rattle.encoder_bit_allocator.specs.Allocation.{AllocationIs}
+use Rattle.encoder_bit_allocator.specs.Allocation.{AllocationAnswer, AllocationIs}
 use Rattle.side_info.specs.SideInfo.{side_info, header_layout}
 use Rattle.side_info_writer.specs.declared.WrittenSideInfo.{WrittenSideInfo}
 use Rattle.side_info_writer.specs.Written.{WrittenIs}
@@ -30,13 +29,13 @@ pub record SentIn (q : Request) (steps : List ℕ) (w : WrittenSideInfo) : Type 
 
 -- What the contracts of `allocate_bits` and `write_side_info` come to together: whatever an allocation accepts, written with any scfsi and any
 -- indices up to 62, fits.
-pub record CanBeSent (q : Request) (smr : List (List Float)) (a : Allocation) : Type 0 where
+pub record CanBeSent (q : Request) (smr : List (List Float)) (a : AllocationAnswer) : Type 0 where
   pub sent : AllocationIs q smr a → a.number ≡ 0
       → (scfsi : List ScfsiSlot) (scalefactors : List ℕ) → ((i : ℕ) → get_or scalefactors i 0 ≤ 62)
       → (w : WrittenSideInfo) → WrittenIs q.header (side_info a.audio.nb_steps scfsi scalefactors) w
       → SentIn q a.audio.nb_steps w
 
 -- What the contracts of `allocate_bits` and `check_record` come to together: the record that an allocation accepts passes.
-pub record AllocationPasses (q : Request) (smr : List (List Float)) (a : Allocation) : Type 0 where
+pub record AllocationPasses (q : Request) (smr : List (List Float)) (a : AllocationAnswer) : Type 0 where
   pub passes : AllocationIs q smr a → a.number ≡ 0
       → (c : RecordCheck) → CheckIs q.header (side_info a.audio.nb_steps a.audio.scfsi a.audio.scalefactor) c → c ≡ checked 0 0 0

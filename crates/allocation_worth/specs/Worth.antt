@@ -1,6 +1,5 @@
 -- What the steps that the rounds end at are worth, said of the steps and of the bits left.
-use Rattle.std.specs.Prelude.{ℕ, ◌<◌, ◌≡◌, false, List, map, T, eqb, Float, length, get_or}
-use Rattle.std.proofs.Math.Option.{none}
+use Rattle.std.specs.Prelude.{ℕ, ◌<◌, ◌≡◌, false, List, map, T, eqb, Float, length, get_or, None}
 use Rattle.std.specs.Float.Ieee.{is_nan}
 use Rattle.tables.specs.Search.{place, one_of}
 use Rattle.bitalloc.specs.declared.BitAllocTable.{BitAllocTable}
@@ -47,4 +46,4 @@ pub record Worth (l : Layout) (smr : List (List Float)) (costs : List ℕ) (offe
       → get_or (row_of l.table (field_in (fields_of l) f).subband) (place_in (places_from l steps) f) 0 ≡ field_steps steps (field_in (fields_of l) f)
   pub both : (f ch : ℕ) → f < length (fields_of l) → T (one_of (served (field_in (fields_of l) f)) ch)
       → get_or steps (slot_of ch (field_in (fields_of l) f).subband) 0 ≡ field_steps steps (field_in (fields_of l) f)
-  pub elsewhere : (ch sb : ℕ) → ch < 2 → sb < 32 → served_by l ch sb ≡ none → get_or steps (slot_of ch sb) 0 ≡ 0
+  pub elsewhere : (ch sb : ℕ) → ch < 2 → sb < 32 → served_by l ch sb ≡ None → get_or steps (slot_of ch sb) 0 ≡ 0

@@ -35,7 +35,7 @@ impl Scfsi {
         }
     }
 
-    // The two-bit code.
+    // The two-bit code, as the standard lists it: a cast would leave it to the order of the variants.
     pub fn code(self) -> u8
         ensures { CodeIs self result }
     {
@@ -94,15 +94,11 @@ impl AudioData {
             sblimit: table.sblimit(),
             bound: layout.bound,
             channels: layout.channels,
-            nb_steps: [0; 2 * NUM_SUBBANDS],
-            scfsi: [ScfsiSlot {
-                scfsi: Scfsi::ThreePerGranule,
-            }; 2 * NUM_SUBBANDS],
-            scalefactor: [0; 6 * NUM_SUBBANDS],
+            ..AudioData::filler()
         }
     }
 
-    // What stands beside a refusal.
+    // What stands beside a refusal: nothing allocated, and each slot with three scalefactors of index 0.
     pub fn filler() -> AudioData
         ensures { result ≡ filler }
     {

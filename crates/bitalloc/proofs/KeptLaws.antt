@@ -1,8 +1,8 @@
 -- The rows as the code keeps them are those of the printed tables, each once; and a subband's range tells its row, its width and its places.
+use Rattle.std.specs.Prelude.{Some, slice_get}
 use mathlib.Core.Path.{◌≡◌, refl, sym, ap, ap₂, ◌∙◌, subst}
 use mathlib.Core.Bool.{Bool, true, false, not, cond, ◌&&◌}
 use mathlib.Core.List.{List, [], ◌∷◌, map}
-use mathlib.Core.Option.{some}
 use Prim.Native.Nat.{ℕ, suc, ◌+◌, ◌-◌, ◌*◌, ◌/◌, ◌^◌, ◌≤◌, ◌<◌, min, suc-le-suc}
 use native.Mathlib.Nat.{le_trans, le-suc}
 use native.Mathlib.Decide.{dec_lt}
@@ -10,14 +10,15 @@ use native.Mathlib.Omega.{arith}
 use borrow.Author.Tests.{le-leb, eq-eqb}
 use lib.Bits.{bit_and, and_le_r}
 use lib.Dec.{T, leb, ltb, eqb, ltb→lt, leb→le, eqb→eq, lit<, lit≤}
-use lib.ListN.{length, get_or, get_elem?, get_or-eq_default}
+use lib.ListN.{length, get_or, get_or-eq_default}
 use Rattle.tables.proofs.Rule.{first, second, all_below, below, all, all_at, ordered, ordered_at}
 use Rattle.tables.proofs.Search.{there_only}
+use Rattle.tables.proofs.Listed.{map_at}
 use Rattle.bitalloc.specs.declared.BitAllocTable.{BitAllocTable}
 use Rattle.bitalloc.specs.declared.BitAllocTable.TheVariants.{B2a, B2b, B2c, B2d, B1Lsf}
 use Rattle.bitalloc.specs.Tables.{NbalIs, PlacesAre, ranges, nbal_of, row_of, sblimit_of}
 use Rattle.bitalloc.specs.Storage.{row_of16, sixteen}
-use Rattle.bitalloc.specs.Kept.{kept, kept_row, in_words, half_of, ends_of, reached, range_number, row_number, word_of, column_of, nbals, Subband, owners, KeptOnce, NbalInRange, PlacesInRange, RangeIs}
+use Rattle.bitalloc.specs.Kept.{kept, kept_row, ends_of, reached, range_number, row_number, word_of, column_of, nbals, Subband, owners, KeptOnce, NbalInRange, PlacesInRange, RangeIs}
 use Rattle.bitalloc.proofs.RowLaws.{no_row, no_field, sblimit_small}
 
 -- ---- two rows are the same where their places are
@@ -162,7 +163,7 @@ computed_carried : T (all is_carried owners)
 unfolding is_carried
 computed_carried = tt
 
-owner_carried : (n : ℕ) (s : Subband) → get_elem? owners n ≡ some s → s.number < sblimit_of s.table
+owner_carried : (n : ℕ) (s : Subband) → slice_get owners n ≡ Some s → s.number < sblimit_of s.table
 unfolding is_carried
 owner_carried n s e =
     let d : Subband = record { table = B2a; number = 0 } in
@@ -229,22 +230,14 @@ column_small B2c = lit≤ tt
 column_small B2d = lit≤ tt
 column_small B1Lsf = lit≤ tt
 
--- ---- a row of two places to a word
+-- ---- a row as the code has it
 
-half_right : List ℕ → ℕ → Bool
-half_right row p = eqb (half_of (get_or (in_words row) (p / 2) 0) p) (get_or row p 0)
-
-halves : List ℕ → Bool
-halves row = all_below 16 (half_right row)
-
-computed_halves : T (all halves kept)
-unfolding halves half_right kept
-computed_halves = tt
-
--- the half that the code takes has the place's steps
-pub half_is : (number p : ℕ) → p < 16 → half_of (get_or (in_words (kept_row number)) (p / 2) 0) p ≡ get_or (kept_row number) p 0
-unfolding halves half_right kept_row
-half_is number p h = eqb→eq _ _ (below 16 (half_right (get_or kept number [])) (all_at halves kept [] tt computed_halves number) p h)
+pub kept_at : (number : ℕ) (d : List ℕ) → number < 8 → get_or (map sixteen kept) number d ≡ sixteen (kept_row number)
+unfolding kept_row
+kept_at number d h = map_at sixteen kept number [] d (rw count h)
+  where
+    count : length kept ≡ 8
+    count = unfold kept in refl
 
 -- ---- the functions of the table
 

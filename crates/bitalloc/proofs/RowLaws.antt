@@ -1,9 +1,10 @@
 -- The rule of the rows, shown a single time over table and subband; the sums of nbal; and that the place of a row's steps and the steps at
 -- a row's place are each other's inverse.
+use Rattle.std.proofs.lemmas.Option.{none-some, same_Some}
+use Rattle.std.specs.Prelude.{None, Some}
 use mathlib.Core.Path.{◌≡◌, refl, sym, ap, ap₂, ◌∙◌, subst}
 use mathlib.Core.Bool.{Bool, true, false, ◌&&◌, and-false}
 use mathlib.Core.List.{List, []}
-use mathlib.Core.Option.{none, some, none-ne-some, some-injective}
 use Prim.Native.Nat.{ℕ, ◌+◌, ◌-◌, ◌^◌, ◌≤◌, ◌<◌}
 use mir.Val.{bool_byte}
 use native.Mathlib.Nat.{lt_of_lt_of_le, lt_trans, not-suc-le-zero}
@@ -22,8 +23,6 @@ use Rattle.tables.proofs.Rule.{first, second, all_below, below, all, all_at, ord
 use Rattle.tables.proofs.Search.{there, past, place_found, place_missing, at_place, none_passes}
 use Rattle.bitalloc.specs.declared.BitAllocTable.{BitAllocTable}
 use Rattle.bitalloc.specs.declared.BitAllocTable.TheVariants.{B2a, B2b, B2c, B2d, B1Lsf}
-use Rattle.bitalloc.specs.declared.OptionU32.TheVariants.{Some, None}
-use Rattle.bitalloc.specs.Options.{number_in}
 use Rattle.bitalloc.specs.Tables.{Range, RowRule, StepsAre, AllocationIndexIs, ranges, range_of, holds, width_in, row_in, nbal_of, row_of, sblimit_of, nbal_sum, steps_at, index_of}
 
 -- ---- the rule
@@ -75,7 +74,7 @@ ends B2c = tt
 ends B2d = tt
 ends B1Lsf = tt
 
-no_range : (t : BitAllocTable) (sb : ℕ) → sblimit_of t ≤ sb → range_of t sb ≡ none
+no_range : (t : BitAllocTable) (sb : ℕ) → sblimit_of t ≤ sb → range_of t sb ≡ None
 unfolding range_of ends_below
 no_range t sb h =
     ap (entry_at (ranges t))
@@ -117,6 +116,10 @@ places_small = everywhere (λ n row. length row ≤ 16) (λ n row r. rw r.places
 pub some_place : (t : BitAllocTable) (sb : ℕ) → sb < sblimit_of t → 0 < length (row_of t sb)
 some_place t sb h = let r = row_rule t sb h in rw r.places (lt_of_lt_of_le (lit< tt) (pow_mono r.least))
 
+-- and place 1
+pub two_places : (t : BitAllocTable) (sb : ℕ) → sb < sblimit_of t → 1 < length (row_of t sb)
+two_places t sb h = let r = row_rule t sb h in rw r.places (lt_of_lt_of_le (lit< tt) (pow_mono r.least))
+
 pub steps_small : (t : BitAllocTable) (sb i : ℕ) → get_or (row_of t sb) i 0 ≤ 65535
 steps_small t sb i = everywhere (λ n row. get_or row i 0 ≤ 65535) (λ n row r. r.topped i) (lit≤ tt) t sb
 
@@ -144,7 +147,7 @@ steps_there t sb i places row e p h =
     let l : i < length (row_of t sb) = subst (λ (n : ℕ). i < n) p h in
     let v = row_steps t sb i row e l in
     record {
-      whole = ap some v ∙ sym (there (row_of t sb) i 0 l);
+      whole = ap Some v ∙ sym (there (row_of t sb) i 0 l);
       below = λ n q. (lt_of_lt_of_le l (places_small t sb), subst (λ (n : ℕ). n ≤ 65535) (sym v ∙ held q) (steps_small t sb i));
     }
 
@@ -152,7 +155,7 @@ pub steps_past : (t : BitAllocTable) (sb i places : ℕ) → places ≡ length (
 unfolding steps_at
 steps_past t sb i places p h = record {
   whole = sym (past (row_of t sb) i (subst (λ (n : ℕ). n ≤ i) p h));
-  below = λ n q. absurd (none-ne-some n (ap number_in q));
+  below = λ n q. absurd (none-some n q);
 }
 
 pub index_found_lem : (t : BitAllocTable) (sb steps i places : ℕ) (row : List ℕ) → row ≡ row_of16 t sb → places ≡ length (row_of t sb)
@@ -175,7 +178,7 @@ index_missing t sb steps places row e p b = record {
   whole =
       sym (place_missing (λ n. eqb n steps) (row_of t sb) 0
       (λ k l. ne_eqb _ _ (λ r. b k (subst (λ (n : ℕ). k < n) (sym p) l) (row_steps t sb k row e l ∙ r))));
-  below = λ j r. absurd (none-ne-some j (ap number_in r));
+  below = λ j r. absurd (none-some j r);
 }
 
 pub row_rises : (t : BitAllocTable) (sb i j : ℕ) → i < j → j < length (row_of t sb) → get_or (row_of t sb) i 0 < get_or (row_of t sb) j 0
@@ -314,28 +317,28 @@ nbal_sums B1Lsf = refl
 
 -- ---- steps and places are each other's inverse
 
-pub index_of_steps : (t : BitAllocTable) (sb i n : ℕ) → steps_at t sb i ≡ some n → index_of t sb n ≡ some i
+pub index_of_steps : (t : BitAllocTable) (sb i n : ℕ) → steps_at t sb i ≡ Some n → index_of t sb n ≡ Some i
 unfolding steps_at index_of
 index_of_steps t sb i n e = go (dec_lt i (length (row_of t sb)))
   where
-    go : Dec (i < length (row_of t sb)) → index_of t sb n ≡ some i
+    go : Dec (i < length (row_of t sb)) → index_of t sb n ≡ Some i
     go (yes h) =
-        let v : get_or (row_of t sb) i 0 ≡ n = some-injective _ _ (sym (there (row_of t sb) i 0 h) ∙ e) in
+        let v : get_or (row_of t sb) i 0 ≡ n = same_Some _ _ (sym (there (row_of t sb) i 0 h) ∙ e) in
         place_found (λ m. eqb m n) (row_of t sb) i 0 h
         (λ k l. ne_eqb (get_or (row_of t sb) k 0) n (λ q. let r = row_rises t sb k i l h in omega arith)) (eq-eqb _ _ v)
-    go (no h) = absurd (none-ne-some n (sym (past (row_of t sb) i (omega arith)) ∙ e))
+    go (no h) = absurd (none-some n (sym (past (row_of t sb) i (omega arith)) ∙ e))
 
-pub steps_of_index : (t : BitAllocTable) (sb i n : ℕ) → index_of t sb n ≡ some i → steps_at t sb i ≡ some n
+pub steps_of_index : (t : BitAllocTable) (sb i n : ℕ) → index_of t sb n ≡ Some i → steps_at t sb i ≡ Some n
 unfolding steps_at index_of
 steps_of_index t sb i n e =
     let g = at_place (λ m. eqb m n) (row_of t sb) i e in
-    g.1 ∙ ap some (eqb-true _ _ g.2)
+    g.1 ∙ ap Some (eqb-true _ _ g.2)
 
 -- a row's place fits the field
-pub index_small : (t : BitAllocTable) (sb n p : ℕ) → sb < sblimit_of t → index_of t sb n ≡ some p → p < 2 ^ nbal_of t sb
+pub index_small : (t : BitAllocTable) (sb n p : ℕ) → sb < sblimit_of t → index_of t sb n ≡ Some p → p < 2 ^ nbal_of t sb
 unfolding steps_at
 index_small t sb n p h e = rw (← (row_rule t sb h).places) (go (dec_lt p (length (row_of t sb))))
   where
     go : Dec (p < length (row_of t sb)) → p < length (row_of t sb)
     go (yes l) = l
-    go (no l) = absurd (none-ne-some n (sym (past (row_of t sb) p (omega arith)) ∙ steps_of_index t sb p n e))
+    go (no l) = absurd (none-some n (sym (past (row_of t sb) p (omega arith)) ∙ steps_of_index t sb p n e))

@@ -1,10 +1,7 @@
 -- How the code keeps the rows of the tables: each distinct row once, found by the range that a subband lies in.
 -- Callers need none of this: the public contracts speak of the tables as printed. `KeptOnce` says what is proved of the kept rows, and the rest
 -- serves private functions' contracts.
-use Rattle.std.specs.Prelude.{ℕ, suc, ◌+◌, ◌*◌, ◌/◌, ◌%◌, ◌^◌, ◌≤◌, ◌<◌, ◌≡◌, cond, List, [], ◌∷◌, map, leb, eqb, length, get_or}
-use Rattle.std.proofs.Math.Option.{some}
-use Rattle.std.proofs.Math.ListN.{get_elem?}
-use Rattle.tables.specs.Listed.{tabulate}
+use Rattle.std.specs.Prelude.{ℕ, suc, ◌+◌, ◌*◌, ◌≤◌, ◌<◌, ◌≡◌, cond, List, [], ◌∷◌, map, leb, length, get_or, Some, slice_get}
 use Rattle.bitalloc.specs.declared.BitAllocTable.{BitAllocTable}
 use Rattle.bitalloc.specs.declared.BitAllocTable.TheVariants.{B2a, B2b, B2c, B2d, B1Lsf}
 use Rattle.bitalloc.specs.Tables.{row_of, sblimit_of}
@@ -28,14 +25,6 @@ kept =
 unfoldable pub kept_row : ℕ → List ℕ
 unfolding kept
 kept_row number = get_or kept number []
-
--- as the code has a row: two places to a word of 64 bits, the even one in the lower half
-abbrev pub in_words : List ℕ → List ℕ
-in_words row = tabulate 8 (λ i. get_or row (2 * i) 0 + get_or row (2 * i + 1) 0 * 2 ^ 32)
-
--- the steps at a place, from the word that has them
-abbrev pub half_of : ℕ → ℕ → ℕ
-half_of word place = cond (eqb (place % 2) 0) (word % 2 ^ 32) (word / 2 ^ 32)
 
 -- ---- the ranges
 
@@ -101,7 +90,7 @@ owners =
 pub record KeptOnce : Type 0 where
   pub apart : (i j : ℕ) → i < j → j < length kept → kept_row i ≡ kept_row j → ⊥
   pub owned : map (λ s. row_of s.table s.number) owners ≡ kept
-  pub carried : (n : ℕ) (s : Subband) → get_elem? owners n ≡ some s → s.number < sblimit_of s.table
+  pub carried : (n : ℕ) (s : Subband) → slice_get owners n ≡ Some s → s.number < sblimit_of s.table
   pub found : (t : BitAllocTable) (sb : ℕ) → kept_row (row_number t sb) ≡ row_of t sb
 
 -- ---- what the private functions promise

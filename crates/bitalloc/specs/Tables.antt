@@ -1,17 +1,17 @@
 -- The possible quantizations per subband: Tables 3-B.2a to 3-B.2d of ISO/IEC 11172-3 and Table B.1 of ISO/IEC 13818-3.
-use Rattle.std.specs.Prelude.{ℕ, ◌^◌, ◌≤◌, ◌<◌, ◌≡◌, Bool, ◌&&◌, List, [], ◌∷◌, leb, eqb, length, get_or}
-use Rattle.std.proofs.Math.Option.{Option, none, some}
-use Rattle.std.proofs.Math.ListN.{get_elem?}
+use Rattle.std.specs.Prelude.{ℕ, ◌^◌, ◌≤◌, ◌<◌, ◌≡◌, Bool, ◌&&◌, List, [], ◌∷◌, leb, eqb, length, get_or, Option, None, Some, slice_get, Result, ok_or}
 use Rattle.tables.specs.Search.{place, find}
 use Rattle.bitalloc.specs.declared.BitAllocTable.{BitAllocTable}
+use Rattle.bitalloc.specs.declared.UnknownTable.{UnknownTable}
 use Rattle.bitalloc.specs.declared.BitAllocTable.TheVariants.{B2a, B2b, B2c, B2d, B1Lsf}
-use Rattle.bitalloc.specs.declared.OptionU32.{OptionU32}
-use Rattle.bitalloc.specs.declared.OptionU32.TheVariants.{Some}
-use Rattle.bitalloc.specs.Options.{number_in}
 
 -- the tables in the order of their numbers, 0 to 4
 abbrev pub table_numbered : ℕ → Option BitAllocTable
-table_numbered number = get_elem? (B2a ∷ B2b ∷ B2c ∷ B2d ∷ B1Lsf ∷ []) number
+table_numbered number = slice_get (B2a ∷ B2b ∷ B2c ∷ B2d ∷ B1Lsf ∷ []) number
+
+-- a number is read: it names a table, or is handed back
+abbrev pub TableNamed : ℕ → Result BitAllocTable UnknownTable → Type 0
+TableNamed number r = r ≡ ok_or (table_numbered number) (record { 0 = number })
 
 abbrev pub table_number : BitAllocTable → ℕ
 table_number B2a = 0
@@ -76,8 +76,8 @@ range_of t sb = find (holds sb) (ranges t)
 
 -- the bits of a subband's allocation field; 0 outside the table
 abbrev pub width_in : Option Range → ℕ
-width_in none = 0
-width_in (some g) = g.nbal
+width_in None = 0
+width_in (Some g) = g.nbal
 
 unfoldable pub nbal_of : BitAllocTable → ℕ → ℕ
 unfolding range_of
@@ -85,8 +85,8 @@ nbal_of t sb = width_in (range_of t sb)
 
 -- A subband's row: the steps at each value of its allocation field. A place is an index into it. Outside the table there is no place.
 abbrev pub row_in : Option Range → List ℕ
-row_in none = []
-row_in (some g) = 0 ∷ g.steps
+row_in None = []
+row_in (Some g) = 0 ∷ g.steps
 
 unfoldable pub row_of : BitAllocTable → ℕ → List ℕ
 unfolding range_of
@@ -95,7 +95,7 @@ row_of t sb = row_in (range_of t sb)
 -- the steps at a place of the row
 unfoldable pub steps_at : BitAllocTable → ℕ → ℕ → Option ℕ
 unfolding row_of
-steps_at t sb index = get_elem? (row_of t sb) index
+steps_at t sb index = slice_get (row_of t sb) index
 
 -- the place of the row that has the steps
 unfoldable pub index_of : BitAllocTable → ℕ → ℕ → Option ℕ
@@ -135,10 +135,10 @@ pub record NbalIs (t : BitAllocTable) (sb r : ℕ) : Type 0 where
   pub whole : r ≡ nbal_of t sb
   pub small : r ≤ 4
 
-pub record StepsAre (t : BitAllocTable) (sb index : ℕ) (r : OptionU32) : Type 0 where
-  pub whole : number_in r ≡ steps_at t sb index
+pub record StepsAre (t : BitAllocTable) (sb index : ℕ) (r : Option ℕ) : Type 0 where
+  pub whole : r ≡ steps_at t sb index
   pub below : (n : ℕ) → r ≡ Some n → (index < 16) × (n ≤ 65535)
 
-pub record AllocationIndexIs (t : BitAllocTable) (sb steps : ℕ) (r : OptionU32) : Type 0 where
-  pub whole : number_in r ≡ index_of t sb steps
+pub record AllocationIndexIs (t : BitAllocTable) (sb steps : ℕ) (r : Option ℕ) : Type 0 where
+  pub whole : r ≡ index_of t sb steps
   pub below : (i : ℕ) → r ≡ Some i → i < 16

@@ -1,26 +1,18 @@
 // The bit allocation tables of Layer II: Tables 3-B.2a to d of ISO/IEC 11172-3, Table B.1 of ISO/IEC 13818-3.
 #![tactic(auto)]
 
-ghost use Rattle.std.specs.Prelude.{◌≡◌, ◌+◌, ◌*◌, ◌≤◌, min};
+ghost use Rattle.std.specs.Prelude.{◌≡◌, ◌+◌, ◌*◌, ◌≤◌};
 ghost use Rattle.bitalloc.specs.Kept.{kept_row, ends_of, word_of, column_of, RangeIs};
-ghost use Rattle.bitalloc.specs.Tables.{table_numbered, table_number, SblimitIs, PlacesAre, NbalIs, StepsAre, AllocationIndexIs};
+ghost use Rattle.bitalloc.specs.Tables.{TableNamed, table_number, SblimitIs, PlacesAre, NbalIs, StepsAre, AllocationIndexIs};
 ghost use Rattle.bitalloc.specs.Storage.{row_of16, sixteen, FirstOfThreeIs};
-ghost use Rattle.bitalloc.specs.Options.{table_in};
 
 mod kept_rows;
 
 // A subband's index is below this.
 pub const NUM_SUBBANDS: usize = 32;
 
-// A number, or nothing.
-#[derive(Clone, Copy)]
-pub enum OptionU32 {
-    Some(u32),
-    None,
-}
-
 // The five tables of possible quantizations per subband.
-#[derive(Clone, Copy)]
+#[derive(Clone, Copy, Debug, PartialEq, Eq)]
 pub enum BitAllocTable {
     B2a,
     B2b,
@@ -29,28 +21,29 @@ pub enum BitAllocTable {
     B1Lsf,
 }
 
-// A table, or nothing.
-#[derive(Clone, Copy)]
-pub enum OptionTable {
-    Some(BitAllocTable),
-    None,
+// A number that no table has.
+#[derive(Clone, Copy, Debug, PartialEq, Eq)]
+pub struct UnknownTable(pub u64);
+
+// The table of a number.
+impl TryFrom<u64> for BitAllocTable {
+    type Error = UnknownTable;
+
+    ghost try_from_gives = { TableNamed };
+
+    fn try_from(number: u64) -> Result<Self, UnknownTable> {
+        match number {
+            0 => Ok(BitAllocTable::B2a),
+            1 => Ok(BitAllocTable::B2b),
+            2 => Ok(BitAllocTable::B2c),
+            3 => Ok(BitAllocTable::B2d),
+            4 => Ok(BitAllocTable::B1Lsf),
+            _ => Err(UnknownTable(number)),
+        }
+    }
 }
 
 impl BitAllocTable {
-    // The table of a number.
-    pub fn numbered(number: u64) -> OptionTable
-        ensures { table_in result ≡ table_numbered number }
-    {
-        match number {
-            0 => OptionTable::Some(BitAllocTable::B2a),
-            1 => OptionTable::Some(BitAllocTable::B2b),
-            2 => OptionTable::Some(BitAllocTable::B2c),
-            3 => OptionTable::Some(BitAllocTable::B2d),
-            4 => OptionTable::Some(BitAllocTable::B1Lsf),
-            _ => OptionTable::None,
-        }
-    }
-
     // The table's number.
     pub fn number(self) -> u32
         ensures { result ≡ table_number self }
@@ -85,28 +78,28 @@ impl BitAllocTable {
     }
 
     // The steps at a place of the subband's row.
-    pub fn nb_steps(self, sb: usize, index: u32) -> OptionU32
+    pub fn nb_steps(self, sb: usize, index: u32) -> Option<u32>
         ensures { StepsAre self sb index result }
     {
         let at = index as usize;
         let range = self.range(sb);
         if at < kept_rows::places(range) {
             let row = self.row_in(range);
-            OptionU32::Some(row[at])
+            Some(row[at])
         } else {
-            OptionU32::None
+            None
         }
     }
 
     // The place in the subband's row at which the steps stand. It is one of three, which the steps' binary digits tell; since the row rises, two
     // comparisons tell which.
-    pub fn allocation_index(self, sb: usize, nb_steps: u32) -> OptionU32
+    pub fn allocation_index(self, sb: usize, nb_steps: u32) -> Option<u32>
         ensures { AllocationIndexIs self sb nb_steps result }
     {
         let range = self.range(sb);
         let places = kept_rows::places(range);
         if places == 0 {
-            return OptionU32::None;
+            return None;
         }
         let row = self.row_in(range);
         let first = first_of_three(places, nb_steps);
@@ -114,9 +107,9 @@ impl BitAllocTable {
             + ((row[first] < nb_steps) as usize)
             + ((row[first + 1] < nb_steps) as usize);
         if row[place] == nb_steps {
-            OptionU32::Some(place as u32)
+            Some(place as u32)
         } else {
-            OptionU32::None
+            None
         }
     }
 
@@ -140,7 +133,7 @@ impl BitAllocTable {
     fn range(self, sb: usize) -> usize
         ensures { RangeIs self sb result }
     {
-        let sb_or_32 = smaller(sb, NUM_SUBBANDS) as u64;
+        let sb_or_32 = sb.min(NUM_SUBBANDS) as u64;
         let compared = sb_or_32 * 0x01010101 + (0x80808080 - (self.ends() as u64));
         let flags = (compared >> 7) & 0x01010101;
         (((flags * 0x01010101) >> 24) & 7) as usize
@@ -187,12 +180,6 @@ fn first_of_three(places: usize, nb_steps: u32) -> usize
     ensures { FirstOfThreeIs places nb_steps result }
 {
     let digits = (32 - u32::leading_zeros(nb_steps)) as usize;
-    let middle = smaller(digits, places - 2);
+    let middle = digits.min(places - 2);
     middle - ((0 < middle) as usize)
-}
-
-fn smaller(a: usize, b: usize) -> usize
-    ensures { result ≡ min a b }
-{
-    if a < b { a } else { b }
 }

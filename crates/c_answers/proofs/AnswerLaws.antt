@@ -1,28 +1,37 @@
 -- Laws of the first questions, and of what is written.
 use mathlib.Core.Path.{◌≡◌, refl, sym, ap, ◌∙◌, subst}
-use mathlib.Core.Bool.{Bool, true, false, cond, ◌||◌, ◌&&◌}
-use mathlib.Core.List.{List, [], ◌∷◌, ◌++◌, append-nil}
-use mathlib.Core.Option.{Option, none, some}
-use Prim.Native.Nat.{ℕ, suc, ◌+◌, ◌≤◌, ◌<◌}
-use native.Mathlib.Nat.{not-suc-le-zero, zero-add}
-use native.Mathlib.Numerals.{add-one}
+use mathlib.Core.Bool.{Bool, true, false, cond, ◌||◌, true≢false}
+use mathlib.Core.List.{List, [], ◌∷◌, ◌++◌, append-nil, map}
+use mathlib.Core.Logic.{◌⊎◌, inl, inr}
+use Prim.Native.Nat.{ℕ, ◌≤◌, ◌<◌, min}
+use native.Mathlib.Nat.{not-suc-le-zero}
 use native.Mathlib.Omega.{arith}
 use mir.Val.{bool_byte}
 use lib.Dec.{T, ltb}
-use lib.ListN.{length, get_or, set, take, drop, length-set, length-append, length-drop, drop_of_length-le}
-use lib.Seq.{paste, paste-zero, paste-suc, take-length, take_all, take-append-le}
-use borrow.Author.Tests.{ltb-true, ltb-false}
-use Rattle.bitalloc.specs.declared.OptionU32.{OptionU32}
-use Rattle.bitalloc.specs.declared.OptionU32.TheVariants as U32
+use lib.ListN.{replicate, length, get_or, set, take, drop, length-append, length-drop, length-map, drop_of_length-le}
+use lib.Seq.{ext_get_or, take_all, take-append-le}
+use borrow.Author.Tests.{ltb-false}
+use denote.Param.Members.{Mut}
+use Rattle.std.proofs.Math.Nat.{min-eq_left, min-eq_right}
+use Rattle.std.proofs.lemmas.Bool.{cases_lt}
+use Rattle.std.proofs.lemmas.List.{get_or-map}
+use Rattle.std.specs.Prelude.{Result, Ok, Err, Option, None, Some, is_some}
+use Rattle.std.specs.Fn.{Called}
+use Rattle.std.specs.Array.{IsMapOf}
 use Rattle.header.specs.Questions.{number}
-use Rattle.bitalloc.specs.Options.{is_some, number_in}
 use Rattle.quantization.specs.declared.QuantClass.{QuantClass}
 use Rattle.quantization.specs.Classes.{bits_per_sample}
 use Rattle.audio_data.specs.Scfsi.{code_of}
 use Rattle.encoder_scfsi.specs.declared.ScfsiSelection.{ScfsiSelection}
 use Rattle.encoder_scfsi.specs.Class.{class_number}
 use Rattle.encoder_scfsi.specs.Select.{bit}
+use Rattle.encoder_bit_budget.specs.declared.BitAllocError.{BitAllocError}
+use Rattle.encoder_bit_budget.specs.declared.BitAllocError.TheVariants.{RateOffLadder, NoBitallocTable, ZeroSampleRate, InsufficientFrameSize}
+use Rattle.audio_data.specs.Record.{filler}
+use Rattle.encoder_bit_allocator.specs.Allocation.{answer_in}
 use Rattle.c_answers.specs.Answers.{Meaning, refused, meant, asked, Reply, reply, silent, answered, or_nothing, written, fitted, Answers}
+use Rattle.c_answers.specs.declared.refusal.Refusal.{Refusal}
+use Rattle.c_answers.specs.Refusals.{refusal_number, meaning_in}
 use Rattle.c_answers.specs.Replies.{figures_of, selection_values}
 
 module _ {A : Type 0} where
@@ -66,14 +75,14 @@ module _ {X : Type 0} where
   pub too_short : (short : Bool) (o : Option X) → short ≡ true → asked short o ≡ refused 98
   too_short short o e = rw e
 
-  pub no_meaning : (short : Bool) (o : Option X) → short ≡ false → o ≡ none → asked short o ≡ refused 14
+  pub no_meaning : (short : Bool) (o : Option X) → short ≡ false → o ≡ None → asked short o ≡ refused 14
   no_meaning short o e p = rw (e, p)
 
-  pub a_meaning : (short : Bool) (o : Option X) (x : X) → short ≡ false → o ≡ some x → asked short o ≡ meant x
+  pub a_meaning : (short : Bool) (o : Option X) (x : X) → short ≡ false → o ≡ Some x → asked short o ≡ meant x
   a_meaning short o x e p = rw (e, p)
 
   -- where nothing but the slices is asked about
-  pub long_enough : (short : Bool) (x : X) → short ≡ false → asked short (some x) ≡ meant x
+  pub long_enough : (short : Bool) (x : X) → short ≡ false → asked short (Some x) ≡ meant x
   long_enough short x e = rw e
 
   module _ {A : Type 0} (m : Meaning X) (f : X → Reply A) (old : List A) where
@@ -94,19 +103,11 @@ module _ {X : Type 0} where
         → Answers (answered m f) old r new
     put_by x r vs new e p h q = meant_by x r vs new e p (fits vs old new h q)
 
--- ---- something at a place, or nothing
-
-pub found_one : (r : OptionU32) (o : Option ℕ) (n : ℕ) → number_in r ≡ o → r ≡ U32.Some n → reply 0 (n ∷ []) ≡ or_nothing o
-found_one r o n p q = ap or_nothing (sym (ap number_in q) ∙ p)
-
-pub found_none : (r : OptionU32) (o : Option ℕ) → number_in r ≡ o → r ≡ U32.None → silent 97 ≡ or_nothing o
-found_none r o p q = ap or_nothing (sym (ap number_in q) ∙ p)
-
 -- a question whether there is something, and values of it
 pub found_or : {X A : Type 0} (o p : Option X) (n : ℕ) (values : Option X → List A) → o ≡ p
     → reply (cond (is_some o) 0 n) (values o) ≡ reply (number (record { yes = is_some p; otherwise = n } ∷ [])) (values p)
-found_or o none n values e = rw e
-found_or o (some x) n values e = rw e
+found_or o None n values e = rw e
+found_or o (Some x) n values e = rw e
 
 -- ---- a flag as a number
 
@@ -130,68 +131,70 @@ two_written [] v w h = absurd (not-suc-le-zero h)
 two_written (x ∷ []) v w h = absurd (omega arith)
 two_written (x ∷ y ∷ old) v w h = refl
 
--- ---- a loop that writes values from the front
+-- ---- as many values as the slice holds
 
--- an index below two lengths
-pub both_below : (i a b : ℕ) → ltb i a && ltb i b ≡ true → (i < a) × (i < b)
-both_below i a b e = go (ltb i a) refl e
-  where
-    go : (t : Bool) → ltb i a ≡ t → t && ltb i b ≡ true → (i < a) × (i < b)
-    go true p e = (ltb-true i a p, ltb-true i b e)
-    go false p e = absurd (subst T (sym e) tt)
+module _ {A : Type 0} (vs old : List A) where
+  put_few : length vs ≤ length old → take (length vs) vs ++ drop (length vs) old ≡ fitted vs old
+  put_few h = ap (λ (r : List A). r ++ drop (length vs) old) (take_all (length vs) vs (omega arith)) ∙ sym (all_fit vs old h)
 
-module _ {A : Type 0} where
-  -- the first i of them are written
-  pub record Putting (vs old new : List A) (i : ℕ) : Type 0 where
-    pub few : i ≤ length vs
-    pub inside : i ≤ length old
-    pub long : length new ≡ length old
-    pub so_far : new ≡ paste old 0 vs i
-
-  pub put_none : (vs old : List A) → Putting vs old old 0
-  put_none vs old = record { few = omega arith; inside = omega arith; long = refl; so_far = paste-zero old 0 vs }
-
-  pub put_one : (vs old new : List A) (i : ℕ) (d : A) → i < length vs → i < length old → Putting vs old new i
-      → Putting vs old (set new i (get_or vs i d)) (i + 1)
-  put_one vs old new i d l h p = record {
-    few = omega arith;
-    inside = omega arith;
-    long = simp length-set p.long;
-    so_far = ap (λ (new : List A). set new i (get_or vs i d)) p.so_far ∙ next (paste-suc old 0 vs i d (omega arith) l);
-  }
-    where
-      next : set (paste old 0 vs i) (0 + i) (get_or vs i d) ≡ paste old 0 vs (suc i) → set (paste old 0 vs i) i (get_or vs i d) ≡ paste old 0 vs (i + 1)
-      next e = subst (λ (k : ℕ). set (paste old 0 vs i) k (get_or vs i d) ≡ paste old 0 vs (suc i)) (zero-add i) e ∙ ap (paste old 0 vs) (sym (add-one i))
-
-  pub put_all : (vs old new : List A) (i : ℕ) → length vs ≤ i → Putting vs old new i → new ≡ written vs old
-  put_all vs old new i h p = p.so_far ∙ ap (paste old 0 vs) (same p.few) ∙ simp (take-length, zero-add)
-    where
-      same : i ≤ length vs → i ≡ length vs
-      same l = omega arith
-
-  -- the slice's end is reached first
-  put_inside : (vs old new : List A) (i : ℕ) → length old ≤ i → Putting vs old new i → new ≡ fitted vs old
+  put_many : length old ≤ length vs → take (length old) vs ++ drop (length old) old ≡ fitted vs old
   unfolding fitted
-  put_inside vs old new i h p =
-      let same : i ≡ length old = let l = p.inside in omega arith in
-      let few : length old ≤ length vs = let l = p.few in omega arith in
-      p.so_far ∙ ap (paste old 0 vs) same ∙ cut (0 + length old) (zero-add (length old)) ∙ sym (take-append-le (length old) vs (drop (length vs) old) few)
-    where
-      cut : (n : ℕ) → n ≡ length old → take (length old) vs ++ drop n old ≡ take (length old) vs
-      cut n e = ap (λ (r : List A). take (length old) vs ++ r) (drop_of_length-le old {i = n} (omega arith)) ∙ append-nil (take (length old) vs)
+  put_many h =
+      ap (λ (r : List A). take (length old) vs ++ r) (drop_of_length-le old {i = length old} (omega arith)) ∙ append-nil (take (length old) vs)
+      ∙ sym (take-append-le (length old) vs (drop (length vs) old) h)
 
-  -- the loop ends where one of the two is at its end
-  pub put_fitting : (vs old new : List A) (i : ℕ) → ltb i (length vs) && ltb i (length new) ≡ false → Putting vs old new i → new ≡ fitted vs old
-  put_fitting vs old new i e p = ended (ltb i (length vs)) refl e
+  -- the first values, and behind them the slice as it was
+  pub put_front : (n : ℕ) (front : List A) → n ≡ min (length vs) (length old) → front ≡ take n vs → front ++ drop n old ≡ fitted vs old
+  put_front n front e p = rw (p, e) (go (cases_lt (length vs) (length old)))
     where
-      ended : (t : Bool) → ltb i (length vs) ≡ t → t && ltb i (length new) ≡ false → new ≡ fitted vs old
-      ended true q e = put_inside vs old new i (let h = ltb-false i (length new) e in let l = p.long in omega arith) p
-      ended false q e =
-          let l = p.inside in
-          let h = ltb-false i (length vs) q in
-          put_all vs old new i h p ∙ sym (all_fit vs old (omega arith))
+      go : (length vs < length old) ⊎ (length old ≤ length vs)
+          → take (min (length vs) (length old)) vs ++ drop (min (length vs) (length old)) old ≡ fitted vs old
+      go (inl h) = let l : length vs ≤ length old = omega arith in rw (min-eq_left l) (put_few l)
+      go (inr h) = rw (min-eq_right h) (put_many h)
+
+-- ---- results and refusals
+
+module _ {X : Type 0} (r : Result X Refusal) (m : Meaning X) (asks : meaning_in r ≡ m) where
+  -- the call is refused
+  pub refusal : (e : Refusal) → r ≡ Err e → m ≡ refused (refusal_number e)
+  refusal e p = sym asks ∙ ap meaning_in p
+
+  -- or the arguments mean x
+  pub meaning : (x : X) → r ≡ Ok x → m ≡ meant x
+  meaning x p = sym asks ∙ ap meaning_in p
+
+-- then no slice is short
+module _ {X : Type 0} where
+  abbrev is_meant : Meaning X → Bool
+  is_meant (refused n) = false
+  is_meant (meant x) = true
+
+  pub not_short : (short : Bool) (o : Option X) (x : X) → asked short o ≡ meant x → short ≡ false
+  not_short true o x e = absurd (true≢false (sym (ap is_meant e)))
+  not_short false o x e = refl
+
+-- ---- the elements of an array, each made into another
+
+-- what `map` makes of them, where each call answers h
+pub mapped : {F A B : Type 0} (g : Mut F (A × Unit {0}) B) (f : F) (h : A → B) (d : A) (e : B) (xs : List A) (ys : List B) (n : ℕ) → length xs ≡ n
+    → ((p : F) (x : A) (y : B) (q : F) → Called g p (x, tt) y q → y ≡ h x) → IsMapOf g f xs ys n → ys ≡ map h xs
+mapped g f h d e xs ys n l each m =
+    ext_get_or e ys (map h xs) (m.long ∙ sym l ∙ sym (length-map xs h))
+    (λ i b.
+    let k : i < n = let s = m.long in omega arith in
+    let call = m.at i d e k in
+    each _ _ _ _ call.2 ∙ sym (get_or-map h xs i d e (omega arith)))
 
 -- arguments that mean something get the reply g of what is found, where that is the reply f to them
 pub replied : {X W A : Type 0} (m : Meaning X) (f : X → Reply A) (old : List A) (x : X) (r : ℕ) (new : List A) (g : W → Reply A) (w v : W) → m ≡ meant x
     → w ≡ v → g v ≡ f x → Answers (g w) old r new → Answers (answered m f) old r new
 replied m f old x r new g w v e p q a = rw (e, ← q, ← p) a
+
+-- ---- a refused allocation: no slot has steps
+
+pub idle_steps : (e : BitAllocError) → replicate 64 0 ≡ (answer_in (Err e)).audio.nb_steps
+unfolding filler
+idle_steps RateOffLadder = refl
+idle_steps NoBitallocTable = refl
+idle_steps ZeroSampleRate = refl
+idle_steps (InsufficientFrameSize cb fixed banc) = refl

@@ -1,6 +1,5 @@
 -- How a call from C is answered: by a number, and by values in the caller's slices.
-use Rattle.std.specs.Prelude.{ℕ, ◌≡◌, Bool, true, false, List, [], ◌∷◌, ◌++◌, length, take, drop}
-use Rattle.std.proofs.Math.Option.{Option, none, some}
+use Rattle.std.specs.Prelude.{ℕ, ◌≡◌, Bool, true, false, List, [], ◌∷◌, ◌++◌, length, take, drop, Option, None, Some}
 
 -- ---- the questions that come before any other
 
@@ -12,8 +11,8 @@ pub data Meaning (X : Type 0) : Type 0 where
 -- 98 where a slice is short; then 14 where the arguments mean nothing
 abbrev pub asked : {X : Type 0} → Bool → Option X → Meaning X
 asked true given = refused 98
-asked false none = refused 14
-asked false (some x) = meant x
+asked false None = refused 14
+asked false (Some x) = meant x
 
 -- ---- the reply
 
@@ -36,8 +35,8 @@ answered (meant x) f = f x
 
 -- the question behind those: 97 where there is nothing at the place asked for
 abbrev pub or_nothing : {A : Type 0} → Option A → Reply A
-or_nothing none = silent 97
-or_nothing (some x) = reply 0 (x ∷ [])
+or_nothing None = silent 97
+or_nothing (Some x) = reply 0 (x ∷ [])
 
 -- ---- what a function promises
 

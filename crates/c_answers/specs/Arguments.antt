@@ -1,6 +1,5 @@
 -- What the numbers stand for by which C hands a header or a table.
-use Rattle.std.specs.Prelude.{ℕ, Bool, cond, ◌&&◌, eqb, leb}
-use Rattle.std.proofs.Math.Option.{Option, none, some}
+use Rattle.std.specs.Prelude.{ℕ, Bool, cond, ◌&&◌, eqb, leb, Option, None, Some}
 use Rattle.header.specs.declared.Mode.{Mode}
 use Rattle.header.specs.declared.ModeExtension.{ModeExtension}
 use Rattle.header.specs.declared.FrameHeader.{FrameHeader}
@@ -9,8 +8,6 @@ use Rattle.bitalloc.specs.declared.BitAllocTable.{BitAllocTable}
 use Rattle.bitalloc.specs.Tables.{table_numbered}
 use Rattle.c_answers.specs.Answers.{Meaning, asked}
 use Rattle.c_answers.specs.declared.arguments.HeaderNumbers.{HeaderNumbers}
-use Rattle.c_answers.specs.declared.arguments.HeaderGiven.{HeaderGiven}
-use Rattle.c_answers.specs.declared.arguments.HeaderGiven.TheVariants.{Meant, Nothing}
 
 -- a flag is 0 or 1
 abbrev pub are_flags : ℕ → ℕ → ℕ → Bool
@@ -18,9 +15,9 @@ are_flags lsf padding protection = leb lsf 1 && leb padding 1 && leb protection 
 
 -- the header of a mode and an extension, where there are both
 abbrev pub where_both : (Mode → ModeExtension → FrameHeader) → Option Mode → Option ModeExtension → Option FrameHeader
-where_both f none e = none
-where_both f (some m) none = none
-where_both f (some m) (some e) = some (f m e)
+where_both f None e = None
+where_both f (Some m) None = None
+where_both f (Some m) (Some e) = Some (f m e)
 
 -- the header of seven arguments, in their order; nothing where one of them means nothing
 unfoldable pub header_in : ℕ → ℕ → ℕ → ℕ → ℕ → ℕ → ℕ → Option FrameHeader
@@ -37,7 +34,7 @@ header_in lsf bit-rate sample-rate padding protection mode extension =
       protection_bit = eqb protection 1;
     })
     (mode_of_code mode) (extension_of_code extension))
-    none
+    None
 
 -- the same of the code's seven numbers
 abbrev pub header_numbered : HeaderNumbers → Option FrameHeader
@@ -52,8 +49,3 @@ header_meant short lsf bit-rate sample-rate padding protection mode extension =
 -- the same with a table
 abbrev pub table_meant : Bool → ℕ → Meaning BitAllocTable
 table_meant short table = asked short (table_numbered table)
-
--- what the code's enum stands for
-abbrev pub header_from : HeaderGiven → Option FrameHeader
-header_from (Meant h) = some h
-header_from Nothing = none

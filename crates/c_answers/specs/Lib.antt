@@ -1,4 +1,5 @@
 pub mod Answers
 pub mod Arguments
+pub mod Refusals
 pub mod Replies
 pub mod Version

@@ -1,14 +1,12 @@
 -- What each function replies to arguments that mean something, over the definitions that the function which it wraps is proved equal to.
 -- Beside a number that is not 0 the definitions have the refused record's values.
-use Rattle.std.specs.Prelude.{ℕ, ◌*◌, ◌/◌, ◌%◌, false, List, [], ◌∷◌, ℤ, pos, Float, get_or, take, drop}
-use Rattle.std.proofs.Math.Option.{Option, none, some}
+use Rattle.std.specs.Prelude.{ℕ, ◌*◌, ◌/◌, ◌%◌, false, List, [], ◌∷◌, ℤ, pos, Float, get_or, take, drop, Option, None, Some, is_some}
 use Rattle.std.specs.Float.{fin}
 use Rattle.header.specs.declared.FrameHeader.{FrameHeader}
 use Rattle.header.specs.Questions.{Question, number}
 use Rattle.header.specs.Header.{frame_size}
 use Rattle.bitalloc.specs.declared.BitAllocTable.{BitAllocTable}
 use Rattle.quantization.specs.declared.QuantClass.{QuantClass}
-use Rattle.bitalloc.specs.Options.{is_some}
 use Rattle.table_selection.specs.Select.{table_of}
 use Rattle.bitalloc.specs.Tables.{table_number, sblimit_of, nbal_of, steps_at, index_of}
 use Rattle.quantization.specs.Classes.{class_of, bits_per_sample}
@@ -25,16 +23,15 @@ use Rattle.encoder_bit_budget.specs.declared.FixedBitBudget.{FixedBitBudget}
 use Rattle.encoder_bit_budget.specs.Budget.{plain, table_asked, budget_of, available_of}
 use Rattle.encoder_bit_demand.specs.Demand.{demand_of}
 use Rattle.encoder_bit_demand.specs.Snr.{snr_of}
-use Rattle.encoder_bit_allocator.specs.declared.Allocation.{Allocation}
-use Rattle.encoder_bit_allocator.specs.Allocation.{allocation_of}
+use Rattle.encoder_bit_allocator.specs.Allocation.{AllocationAnswer, allocation_of}
 use Rattle.c_answers.specs.Answers.{Reply, reply, or_nothing}
 
 -- ---- of a header
 
 -- the number of a table, and 0 where there is none
 abbrev pub table_or : Option BitAllocTable → ℕ
-table_or none = 0
-table_or (some t) = table_number t
+table_or None = 0
+table_or (Some t) = table_number t
 
 abbrev pub table_selected : FrameHeader → Reply ℕ
 table_selected h = reply (number (table_asked h ∷ [])) (table_or (table_of h) ∷ [])
@@ -69,7 +66,7 @@ steps_allocated smr banc h =
     let a = allocation_of (plain h banc) (smr_rows smr) in
     reply a.number a.audio.nb_steps
 
-abbrev pub allocation_values : Allocation → List ℕ
+abbrev pub allocation_values : AllocationAnswer → List ℕ
 allocation_values a = a.left ∷ a.cb ∷ a.fixed ∷ a.banc ∷ []
 
 abbrev pub bits_allocated : List Float → ℕ → FrameHeader → Reply ℕ
@@ -95,7 +92,7 @@ index_found sb steps t = or_nothing (index_of t sb steps)
 
 -- the class, and zeros where there is none
 abbrev pub class_or : Option QuantClass → QuantClass
-class_or none = record {
+class_or None = record {
   nb_steps = 0;
   c = fin false 0 (pos 0);
   d = fin false 0 (pos 0);
@@ -103,7 +100,7 @@ class_or none = record {
   samples_per_codeword = 0;
   bits_per_codeword = 0;
 }
-class_or (some q) = q
+class_or (Some q) = q
 
 abbrev pub coefficients : ℕ → Reply Float
 coefficients steps =
@@ -123,8 +120,8 @@ snr_asked steps = record { yes = is_some (snr_of steps); otherwise = 5 }
 
 -- the signal-to-noise ratio in dB, and 0 where there is none
 abbrev pub snr_or : Option Float → Float
-snr_or none = fin false 0 (pos 0)
-snr_or (some x) = x
+snr_or None = fin false 0 (pos 0)
+snr_or (Some x) = x
 
 abbrev pub snr_found : ℕ → Reply Float
 snr_found steps = reply (number (snr_asked steps ∷ [])) (snr_or (snr_of steps) ∷ [])

@@ -1,8 +1,12 @@
-// From the seven numbers by which C hands over a header to the header.
-ghost use Rattle.std.specs.Prelude.{◌≡◌};
-ghost use Rattle.c_answers.specs.Arguments.{header_in, header_numbered, header_from};
+// From the numbers by which C hands over a header or a table to what they mean.
+ghost use Rattle.std.specs.Prelude.{◌≡◌, false, cond, leb, eqb};
+ghost use Rattle.c_answers.specs.Answers.{meant, refused, asked};
+ghost use Rattle.c_answers.specs.Arguments.{header_numbered, table_meant};
+ghost use Rattle.c_answers.specs.Refusals.{meaning_in};
 
-use header::{FrameHeader, Mode, ModeExtension, OptionExtension, OptionMode};
+use crate::refusal::Refusal;
+use bitalloc::BitAllocTable;
+use header::{FrameHeader, Mode, ModeExtension};
 
 // The seven numbers of a call, in the order of the C header.
 #[derive(Clone, Copy)]
@@ -16,56 +20,63 @@ pub struct HeaderNumbers {
     pub mode_extension: u8,
 }
 
-// The header that the numbers mean, or nothing.
-#[derive(Clone, Copy)]
-pub enum HeaderGiven {
-    Meant(FrameHeader),
-    Nothing,
+impl HeaderNumbers {
+    // The header that they mean; refused where a slice of the call is short, or where one of them means nothing.
+    pub fn header(self, short: bool) -> Result<FrameHeader, Refusal>
+        ensures { meaning_in result ≡ asked short (header_numbered self) }
+    {
+        if short {
+            return Err(Refusal::Short);
+        }
+        FrameHeader::try_from(self)
+    }
 }
 
-// The header of a call; nothing where one of the numbers means nothing.
-pub fn header_given(given: HeaderNumbers) -> HeaderGiven
-    ensures { header_from result ≡ header_numbered given }
-{
-    header_of(
-        given.lsf,
-        given.bit_rate,
-        given.sample_rate,
-        given.padding,
-        given.protection_bit,
-        given.mode,
-        given.mode_extension,
-    )
-}
+impl TryFrom<HeaderNumbers> for FrameHeader {
+    type Error = Refusal;
 
-fn header_of(
-    lsf: u8,
-    bit_rate: u32,
-    sample_rate: u32,
-    padding: u8,
-    protection_bit: u8,
-    mode: u8,
-    mode_extension: u8,
-) -> HeaderGiven
-    ensures { header_from result ≡ header_in lsf bit_rate sample_rate padding protection_bit mode mode_extension }
-{
-    let OptionMode::Some(mode) = Mode::of_code(mode as u64) else {
-        return HeaderGiven::Nothing;
-    };
-    let OptionExtension::Some(mode_extension) = ModeExtension::of_code(mode_extension as u64) else {
-        return HeaderGiven::Nothing;
-    };
-    if (lsf <= 1) & (padding <= 1) & (protection_bit <= 1) {
-        HeaderGiven::Meant(FrameHeader {
-            lsf: lsf == 1,
-            bit_rate,
-            sample_rate,
-            padding: padding == 1,
+    ghost try_from_gives = { λ given result. meaning_in result ≡ asked false (header_numbered given) };
+
+    #[tactic(auto, unfolding(crate::specs::Arguments::header_in))]
+    fn try_from(given: HeaderNumbers) -> Result<FrameHeader, Refusal> {
+        let Ok(mode) = Mode::try_from(u64::from(given.mode)) else {
+            return Err(Refusal::NoMeaning);
+        };
+        let Ok(mode_extension) = ModeExtension::try_from(u64::from(given.mode_extension)) else {
+            return Err(Refusal::NoMeaning);
+        };
+        Ok(FrameHeader {
+            lsf: flag(given.lsf)?,
+            bit_rate: given.bit_rate,
+            sample_rate: given.sample_rate,
+            padding: flag(given.padding)?,
             mode,
             mode_extension,
-            protection_bit: protection_bit == 1,
+            protection_bit: flag(given.protection_bit)?,
         })
-    } else {
-        HeaderGiven::Nothing
     }
+}
+
+// A flag is 0 or 1.
+fn flag(number: u8) -> Result<bool, Refusal>
+    ensures { meaning_in result ≡ cond (leb number 1) (meant (eqb number 1)) (refused 14) }
+{
+    match number {
+        0 => Ok(false),
+        1 => Ok(true),
+        _ => Err(Refusal::NoMeaning),
+    }
+}
+
+// The table of a number; refused where a slice of the call is short, or where the number means nothing.
+pub fn table(short: bool, number: u8) -> Result<BitAllocTable, Refusal>
+    ensures { meaning_in result ≡ table_meant short number }
+{
+    if short {
+        return Err(Refusal::Short);
+    }
+    let Ok(table) = BitAllocTable::try_from(u64::from(number)) else {
+        return Err(Refusal::NoMeaning);
+    };
+    Ok(table)
 }

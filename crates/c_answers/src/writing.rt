@@ -1,33 +1,11 @@
-// Values into a slice, from its front, as many as it holds; the rest of the slice stays as it was. One function for each type of element.
-ghost use Rattle.std.specs.Prelude.{◌≡◌};
-ghost use Rattle.c_answers.specs.Answers.{fitted};
+// Values into a slice, from its front, as many as it holds; the rest of the slice stays as it was.
+ghost use Rattle.std.specs.Prelude.{◌≡◌, ◌≤◌, length};
+ghost use Rattle.c_answers.specs.Answers.{written, fitted};
 
-pub fn put(values: &[u32], out: &mut [u32])
-    ensures { out.new ≡ fitted values.now out.old }
+pub fn put<T: Copy>(values: &[T], out: &mut [T])
+    ensures front { out.new ≡ fitted values.now out.old }
+    ensures whole { length values.now ≤ length out.old → out.new ≡ written values.now out.old }
 {
-    let mut i: usize = 0;
-    while (i < values.len()) & (i < out.len()) {
-        out[i] = values[i];
-        i = i + 1;
-    }
-}
-
-pub fn put_bytes(values: &[u8], out: &mut [u8])
-    ensures { out.new ≡ fitted values.now out.old }
-{
-    let mut i: usize = 0;
-    while (i < values.len()) & (i < out.len()) {
-        out[i] = values[i];
-        i = i + 1;
-    }
-}
-
-pub fn put_samples(values: &[f64], out: &mut [f64])
-    ensures { out.new ≡ fitted values.now out.old }
-{
-    let mut i: usize = 0;
-    while (i < values.len()) & (i < out.len()) {
-        out[i] = values[i];
-        i = i + 1;
-    }
+    let count = values.len().min(out.len());
+    out[..count].copy_from_slice(&values[..count]);
 }

@@ -1,9 +1,11 @@
 // The functions of a header.
-use crate::{record, show};
+use crate::record::Record;
+use crate::show;
 use folgrist_mp2::{frame, side_information};
 use std::io;
 
-// The seven arguments of a header.
+// The seven arguments of a header. Of the same form as `HeaderNumbers` of `c_answers`, on which this program does not stand: it calls
+// `folgrist_mp2` alone, by numbers, as C does. Each call writes the seven out, since their order is what it shows.
 #[derive(Clone, Copy)]
 pub struct Head {
     pub lsf: u8,
@@ -37,7 +39,7 @@ fn select_table(rt: &impl Print, h: Head) -> io::Result<()> {
         h.mode_extension,
         &mut out,
     );
-    show::words(rt, "select_table", number, &out)
+    show::written(rt, "select_table", number, &out)
 }
 
 fn frame_size_bytes(rt: &impl Print, h: Head) -> io::Result<()> {
@@ -52,7 +54,7 @@ fn frame_size_bytes(rt: &impl Print, h: Head) -> io::Result<()> {
         h.mode_extension,
         &mut out,
     );
-    show::one(rt, "frame_size_bytes", number, out[0])
+    show::written(rt, "frame_size_bytes", number, &out)
 }
 
 fn fixed_bit_budget(rt: &impl Print, h: Head) -> io::Result<()> {
@@ -67,7 +69,7 @@ fn fixed_bit_budget(rt: &impl Print, h: Head) -> io::Result<()> {
         h.mode_extension,
         &mut out,
     );
-    show::words(rt, "fixed_bit_budget", number, &out)
+    show::written(rt, "fixed_bit_budget", number, &out)
 }
 
 fn available_data_bits(rt: &impl Print, h: Head, banc: u32) -> io::Result<()> {
@@ -83,11 +85,11 @@ fn available_data_bits(rt: &impl Print, h: Head, banc: u32) -> io::Result<()> {
         banc,
         &mut out,
     );
-    show::one(
+    show::written(
         rt,
         "available_data_bits",
         number,
-        show::not_below_zero(out[0]),
+        &out.map(show::not_below_zero),
     )
 }
 
@@ -105,7 +107,7 @@ fn demand_bits(rt: &impl Print, h: Head) -> io::Result<()> {
         &smr_db,
         &mut out,
     );
-    show::one(rt, "demand_bits", number, out[0])
+    show::written(rt, "demand_bits", number, &out)
 }
 
 fn allocate_bits(rt: &impl Print, h: Head, banc: u32) -> io::Result<()> {
@@ -125,14 +127,12 @@ fn allocate_bits(rt: &impl Print, h: Head, banc: u32) -> io::Result<()> {
         &mut steps,
         &mut out,
     );
-    show::words(rt, "allocate_bits", number, &steps)?;
-    show::words(rt, "allocate_bits, out", number, &out)
+    show::written(rt, "allocate_bits", number, &steps)?;
+    show::written(rt, "allocate_bits, out", number, &out)
 }
 
 fn write_side_info(rt: &impl Print, h: Head) -> io::Result<()> {
-    let steps = record::steps();
-    let scfsi = record::scfsi();
-    let indices = record::indices();
+    let record = Record::sent();
     let mut bytes = [9u8; 174];
     let mut out = [9u32; 1];
     let number = side_information::folgrist_write_side_info(
@@ -143,20 +143,19 @@ fn write_side_info(rt: &impl Print, h: Head) -> io::Result<()> {
         h.protection_bit,
         h.mode,
         h.mode_extension,
-        &steps,
-        &scfsi,
-        &indices,
+        &record.steps,
+        &record.scfsi,
+        &record.indices,
         &mut bytes,
         &mut out,
     );
-    show::bytes(rt, "write_side_info", number, &bytes)?;
-    show::words(rt, "write_side_info, out", number, &out)?;
-    check_record(rt, h, &steps, &scfsi, &indices)?;
+    show::written(rt, "write_side_info", number, &bytes)?;
+    show::written(rt, "write_side_info, out", number, &out)?;
+    check_record(rt, h, &record)?;
     read_side_info(rt, h, &bytes)
 }
 
-// From what was written. What is read is written in its one form, with other scfsi, which gives the same bytes; and it is checked, and again with steps in
-// subband 28: joint stereo shares it, the single channel does not carry it, and that of LSF does.
+// From what was written.
 fn read_side_info(rt: &impl Print, h: Head, bytes: &[u8]) -> io::Result<()> {
     let mut steps = [9u32; 64];
     let mut scfsi = [9u8; 64];
@@ -176,23 +175,36 @@ fn read_side_info(rt: &impl Print, h: Head, bytes: &[u8]) -> io::Result<()> {
         &mut indices,
         &mut out,
     );
-    show::words(rt, "read_side_info, steps", number, &steps)?;
-    show::bytes(rt, "read_side_info, scfsi", number, &scfsi)?;
-    show::bytes(rt, "read_side_info, indices", number, &indices)?;
-    show::words(rt, "read_side_info, out", number, &out)?;
-    write_side_info_canonical(rt, h, &steps, &[0; 64], &indices)?;
-    check_record(rt, h, &steps, &scfsi, &indices)?;
-    steps[28] = 3;
-    check_record(rt, h, &steps, &scfsi, &indices)
+    show::written(rt, "read_side_info, steps", number, &steps)?;
+    show::written(rt, "read_side_info, scfsi", number, &scfsi)?;
+    show::written(rt, "read_side_info, indices", number, &indices)?;
+    show::written(rt, "read_side_info, out", number, &out)?;
+    ask_again(
+        rt,
+        h,
+        Record {
+            steps,
+            scfsi,
+            indices,
+        },
+    )
 }
 
-fn write_side_info_canonical(
-    rt: &impl Print,
-    h: Head,
-    steps: &[u32],
-    scfsi: &[u8],
-    indices: &[u8],
-) -> io::Result<()> {
+// What is read is written in its one form, with other scfsi, which gives the same bytes; and it is checked, and again with steps in
+// subband 28: joint stereo shares it, the single channel does not carry it, and that of LSF does.
+fn ask_again(rt: &impl Print, h: Head, read: Record) -> io::Result<()> {
+    let other_scfsi = Record {
+        scfsi: [0; 64],
+        ..read
+    };
+    write_side_info_canonical(rt, h, &other_scfsi)?;
+    check_record(rt, h, &read)?;
+    let mut with_steps = read;
+    with_steps.steps[28] = 3;
+    check_record(rt, h, &with_steps)
+}
+
+fn write_side_info_canonical(rt: &impl Print, h: Head, record: &Record) -> io::Result<()> {
     let mut bytes = [9u8; 174];
     let mut out = [9u32; 1];
     let number = side_information::folgrist_write_side_info_canonical(
@@ -203,23 +215,17 @@ fn write_side_info_canonical(
         h.protection_bit,
         h.mode,
         h.mode_extension,
-        steps,
-        scfsi,
-        indices,
+        &record.steps,
+        &record.scfsi,
+        &record.indices,
         &mut bytes,
         &mut out,
     );
-    show::bytes(rt, "write_side_info_canonical", number, &bytes)?;
-    show::words(rt, "write_side_info_canonical, out", number, &out)
+    show::written(rt, "write_side_info_canonical", number, &bytes)?;
+    show::written(rt, "write_side_info_canonical, out", number, &out)
 }
 
-fn check_record(
-    rt: &impl Print,
-    h: Head,
-    steps: &[u32],
-    scfsi: &[u8],
-    indices: &[u8],
-) -> io::Result<()> {
+fn check_record(rt: &impl Print, h: Head, record: &Record) -> io::Result<()> {
     let mut out = [9u32; 2];
     let number = side_information::folgrist_check_record(
         h.lsf,
@@ -229,23 +235,21 @@ fn check_record(
         h.protection_bit,
         h.mode,
         h.mode_extension,
-        steps,
-        scfsi,
-        indices,
+        &record.steps,
+        &record.scfsi,
+        &record.indices,
         &mut out,
     );
-    show::words(rt, "check_record", number, &out)
+    show::written(rt, "check_record", number, &out)
 }
 
 // From 30 dB down by three quarters of one from slot to slot.
 fn ratios() -> [f64; 64] {
     let mut by_slot = [0.0; 64];
     let mut db = 30.0;
-    let mut slot: usize = 0;
-    while slot < 64 {
-        by_slot[slot] = db;
-        db = db - 0.75;
-        slot = slot + 1;
+    for ratio in by_slot.iter_mut() {
+        *ratio = db;
+        db -= 0.75;
     }
     by_slot
 }

@@ -15,32 +15,30 @@ pub fn ask(rt: &impl Print) -> io::Result<()> {
 
 fn pick_scalefactor_index(rt: &impl Print, max_abs: f64) -> io::Result<()> {
     let index = scalefactors::folgrist_pick_scalefactor_index(max_abs);
-    show::returned(rt, "pick_scalefactor_index", index as u32)
+    show::returned(rt, "pick_scalefactor_index", u32::from(index))
 }
 
 fn extract_scalefactor_index(rt: &impl Print) -> io::Result<()> {
     let frame = falling();
     let mut out = [9u8; 1];
     let number = scalefactors::folgrist_extract_scalefactor_index(&frame, &mut out);
-    show::bytes(rt, "extract_scalefactor_index", number, &out)
+    show::written(rt, "extract_scalefactor_index", number, &out)
 }
 
 fn compute_scalefactors(rt: &impl Print, limit: u64) -> io::Result<()> {
     let frame = falling();
     let mut out = [9u8; 96];
     let number = scalefactors::folgrist_compute_scalefactors(&frame, limit, &mut out);
-    show::bytes(rt, "compute_scalefactors", number, &out)
+    show::written(rt, "compute_scalefactors", number, &out)
 }
 
 // 1152 samples that fall from 0.9 by the same factor from one to the next.
 fn falling() -> [f64; 1152] {
     let mut frame = [0.0; 1152];
     let mut sample = 0.9;
-    let mut i: usize = 0;
-    while i < 1152 {
-        frame[i] = sample;
-        sample = sample * 0.99;
-        i = i + 1;
+    for place in frame.iter_mut() {
+        *place = sample;
+        sample *= 0.99;
     }
     frame
 }
@@ -48,17 +46,17 @@ fn falling() -> [f64; 1152] {
 fn select_scfsi(rt: &impl Print, a: u8, b: u8, c: u8) -> io::Result<()> {
     let mut out = [9u8; 9];
     let number = scalefactors::folgrist_select_scfsi(a, b, c, &mut out);
-    show::bytes(rt, "select_scfsi", number, &out)
+    show::written(rt, "select_scfsi", number, &out)
 }
 
 fn quantize_sample(rt: &impl Print, steps: u32, sample: f64) -> io::Result<()> {
     let mut out = [9u32; 1];
     let number = samples::folgrist_quantize_sample(steps, sample, &mut out);
-    show::words(rt, "quantize_sample", number, &out)
+    show::written(rt, "quantize_sample", number, &out)
 }
 
 fn write_triplet(rt: &impl Print, steps: u32, a: f64, b: f64, c: f64) -> io::Result<()> {
     let mut out = [9u32; 5];
     let number = samples::folgrist_write_triplet(steps, a, b, c, &mut out);
-    show::words(rt, "write_triplet", number, &out)
+    show::written(rt, "write_triplet", number, &out)
 }

@@ -1,11 +1,12 @@
 -- What the arguments stand for by which C hands over a header and the record of its frame's side information.
-use Rattle.std.specs.Prelude.{ℕ, Bool, true, cond, ◌&&◌, ◌||◌, List, [], ◌∷◌, map, leb, ltb, length, take}
-use Rattle.std.proofs.Math.Option.{Option, none, some}
+use Rattle.std.specs.Prelude.{ℕ, Bool, cond, ◌||◌, List, map, leb, ltb, length, take, Option, None, Some}
+use Rattle.std.specs.List.{list_all}
 use Rattle.header.specs.declared.FrameHeader.{FrameHeader}
 use Rattle.audio_data.specs.declared.ScfsiSlot.{ScfsiSlot}
 use Rattle.audio_data.specs.Scfsi.{of_code}
 use Rattle.side_info.specs.SideInfo.{SideInfo, side_info}
 use Rattle.c_answers.specs.declared.arguments.HeaderNumbers.{HeaderNumbers}
+use Rattle.c_side_info.specs.declared.record.RecordSlices.{RecordSlices}
 use Rattle.c_answers.specs.Answers.{Meaning, asked}
 use Rattle.c_answers.specs.Arguments.{header_in}
 
@@ -17,8 +18,7 @@ short_record steps scfsi index = ltb (length steps) 64 || (ltb (length scfsi) 64
 
 -- each scfsi is a two-bit code
 abbrev pub are_codes : List ℕ → Bool
-are_codes [] = true
-are_codes (code ∷ codes) = leb code 3 && are_codes codes
+are_codes codes = list_all (λ code. leb code 3) codes
 
 -- a slot's scfsi by its code
 abbrev pub coded : ℕ → ScfsiSlot
@@ -27,7 +27,7 @@ coded code = record { scfsi = of_code code }
 -- the record of the first elements; nothing where one of its scfsi is no code
 unfoldable pub record_in : List ℕ → List ℕ → List ℕ → Option SideInfo
 record_in steps scfsi index =
-    cond (are_codes (take 64 scfsi)) (some (side_info (take 64 steps) (map coded (take 64 scfsi)) (take 192 index))) none
+    cond (are_codes (take 64 scfsi)) (Some (side_info (take 64 steps) (map coded (take 64 scfsi)) (take 192 index))) None
 
 -- ---- with its header
 
@@ -40,9 +40,9 @@ frame h r = record { header = h; side = r }
 
 -- where there are both
 abbrev pub framed : Option FrameHeader → Option SideInfo → Option Frame
-framed none r = none
-framed (some h) none = none
-framed (some h) (some r) = some (frame h r)
+framed None r = None
+framed (Some h) None = None
+framed (Some h) (Some r) = Some (frame h r)
 
 -- what a function with a header and a record asks first: whether a slice of the record, or another, is short; then what the arguments mean
 abbrev pub frame_meant : Bool → ℕ → ℕ → ℕ → ℕ → ℕ → ℕ → ℕ → List ℕ → List ℕ → List ℕ → Meaning Frame
@@ -54,3 +54,7 @@ frame_meant short lsf bit-rate sample-rate padding protection mode extension ste
 abbrev pub frame_numbered : Bool → HeaderNumbers → List ℕ → List ℕ → List ℕ → Meaning Frame
 frame_numbered short n steps scfsi index =
     frame_meant short n.lsf n.bit_rate n.sample_rate n.padding n.protection_bit n.mode n.mode_extension steps scfsi index
+
+-- the same of the record's slices
+abbrev pub frame_asked : Bool → HeaderNumbers → RecordSlices → Meaning Frame
+frame_asked short n r = frame_numbered short n r.steps.now r.scfsi.now r.index.now

@@ -6,11 +6,17 @@ use Rattle.audio_data.specs.declared.ScfsiSlot.{ScfsiSlot}
 use Rattle.audio_data.specs.Scfsi.{code_of}
 use Rattle.side_info_reading.specs.declared.ReadSideInfo.{ReadSideInfo}
 use Rattle.side_info_reading.specs.Read.{read_of}
-use Rattle.c_answers.specs.Answers.{Reply, reply}
+use Rattle.c_answers.specs.declared.arguments.HeaderNumbers.{HeaderNumbers}
+use Rattle.c_answers.specs.Answers.{Meaning, asked, Reply, reply}
+use Rattle.c_answers.specs.Arguments.{header_numbered}
 
 -- one of its slices is short
 abbrev pub short : List ℕ → List ℕ → List ℕ → List ℕ → Bool
 short steps scfsi index out = ltb (length steps) 64 || (ltb (length scfsi) 64 || (ltb (length index) 192 || ltb (length out) 1))
+
+-- what is asked first: whether a slice is short, then what the header's numbers mean
+abbrev pub header_asked : HeaderNumbers → List ℕ → List ℕ → List ℕ → List ℕ → Meaning FrameHeader
+header_asked n steps scfsi index out = asked (short steps scfsi index out) (header_numbered n)
 
 -- the codes of scfsi
 abbrev pub codes_of : List ScfsiSlot → List ℕ

@@ -4,13 +4,15 @@
 #![tactic(auto)]
 
 ghost use Rattle.std.specs.Prelude.{◌≡◌, ◌≤◌, length};
-ghost use Rattle.c_answers.specs.Answers.{asked, answered, Answers};
-ghost use Rattle.c_answers.specs.Arguments.{header_numbered};
-ghost use Rattle.c_side_info_read.specs.Replies.{short, codes_of, steps_in, scfsi_in, indices_in, bits_in, steps_read, scfsi_read, indices_read, bits_read};
+ghost use Rattle.audio_data.specs.Scfsi.{code_of};
+ghost use Rattle.c_answers.specs.Answers.{answered, Answers};
+ghost use Rattle.c_answers.specs.Refusals.{number_in};
+ghost use Rattle.c_side_info_read.specs.Replies.{header_asked, codes_of, steps_in, scfsi_in, indices_in, bits_in, steps_read, scfsi_read, indices_read, bits_read};
 
 use audio_data::ScfsiSlot;
-use c_answers::arguments::{HeaderGiven, HeaderNumbers};
-use c_answers::{arguments, writing};
+use c_answers::arguments::HeaderNumbers;
+use c_answers::refusal::Refusal;
+use c_answers::writing;
 use side_info_reading::ReadSideInfo;
 
 // The record that stands at the front of the bytes, and how many of their bits are used.
@@ -21,51 +23,45 @@ pub fn read_side_info(
     scfsi: &mut [u8],
     index: &mut [u8],
     out: &mut [u32],
-) -> u32
+) -> Result<u32, Refusal>
     ensures steps_written { Answers
         (answered
-        (asked (short steps.old scfsi.old index.old out.old) (header_numbered given))
+        (header_asked given steps.old scfsi.old index.old out.old)
         (steps_read bytes.now))
-        steps.old result steps.new }
+        steps.old (number_in result) steps.new }
     ensures scfsi_written { Answers
         (answered
-        (asked (short steps.old scfsi.old index.old out.old) (header_numbered given))
+        (header_asked given steps.old scfsi.old index.old out.old)
         (scfsi_read bytes.now))
-        scfsi.old result scfsi.new }
+        scfsi.old (number_in result) scfsi.new }
     ensures index_written { Answers
         (answered
-        (asked (short steps.old scfsi.old index.old out.old) (header_numbered given))
+        (header_asked given steps.old scfsi.old index.old out.old)
         (indices_read bytes.now))
-        index.old result index.new }
+        index.old (number_in result) index.new }
     ensures out_written { Answers
         (answered
-        (asked (short steps.old scfsi.old index.old out.old) (header_numbered given))
+        (header_asked given steps.old scfsi.old index.old out.old)
         (bits_read bytes.now))
-        out.old result out.new }
+        out.old (number_in result) out.new }
 {
-    if (steps.len() < 64) | ((scfsi.len() < 64) | ((index.len() < 192) | (out.len() < 1))) {
-        return 98;
-    }
-    let HeaderGiven::Meant(header) = arguments::header_given(given) else {
-        return 14;
-    };
+    let short = (steps.len() < 64) | ((scfsi.len() < 64) | ((index.len() < 192) | (out.len() < 1)));
+    let header = given.header(short)?;
     let read = side_info_reader::read_side_info(header, bytes);
-    put_read(read, steps, scfsi, index, out)
+    Ok(put_read(read, steps, scfsi, index, out))
 }
 
 // The codes of scfsi.
 fn codes_of(slots: [ScfsiSlot; 64]) -> [u8; 64]
     ensures { result ≡ codes_of slots }
 {
-    let mut codes = [0; 64];
-    let mut slot: usize = 0;
-    while slot < 64 {
-        let at_slot = slots[slot];
-        let scfsi = at_slot.scfsi;
-        codes[slot] = scfsi.code();
-        slot = slot + 1;
-    }
-    codes
+    slots.map(|slot| code(slot))
+}
+
+fn code(slot: ScfsiSlot) -> u8
+    ensures { result ≡ code_of slot.scfsi }
+{
+    slot.scfsi.code()
 }
 
 // A reader's answer into its slices.
@@ -82,13 +78,9 @@ fn put_read(
     ensures index_written { Answers (indices_in read) index.old result index.new }
     ensures out_written { Answers (bits_in read) out.old result out.new }
 {
-    let nb_steps = read.nb_steps;
-    let slots = read.scfsi;
-    let codes = codes_of(slots);
-    let indices = read.scalefactor;
-    writing::put(&nb_steps, steps);
-    writing::put_bytes(&codes, scfsi);
-    writing::put_bytes(&indices, index);
+    writing::put(&read.nb_steps, steps);
+    writing::put(&codes_of(read.scfsi), scfsi);
+    writing::put(&read.scalefactor, index);
     out[0] = read.bits_used;
     read.number
 }

@@ -1,45 +1,47 @@
--- Laws of samples that are taken from a slice.
-use mathlib.Core.Path.{◌≡◌, ap, ◌∙◌, subst}
-use mathlib.Core.List.{List, [], ◌++◌, append-nil}
-use Prim.Native.Nat.{ℕ, ◌+◌, ◌-◌, ◌*◌, ◌/◌, ◌%◌, ◌≤◌, ◌<◌}
-use native.Mathlib.Omega.{arith}
-use lib.Ieee.{Float}
-use lib.ListN.{length, get_or, set, take, drop, length-take, length-drop, drop_of_length-le}
-use Rattle.tables.proofs.Listed.{listed, tabulated, length_tabulate}
-use Rattle.c_answers.specs.Answers.{written, fitted}
+-- Laws of a frame's samples, a subband behind the other, and of its indices, a granule behind the other.
+use Rattle.std.proofs.Common.{◌≡◌, ℕ, zero, suc, ◌+◌, ◌*◌, ◌/◌, ◌≤◌, ◌<◌, List, [], length, get_or, take, drop, refl, sym, ap, ◌∙◌, arith, not-suc-le-zero, le_of_suc-le-suc, mul-zero, mul-suc, drop-drop, get_or-take, length-take-le, Option, Some, None, MatchOption}
+use Rattle.std.specs.Simd.{first_chunks}
+use Rattle.std.specs.List.{flat_map}
+use Rattle.std.specs.Array.{IsFirstChunk}
+use Rattle.std.specs.Float.{Float}
+use Rattle.tables.proofs.Listed.{listed}
+use Rattle.encoder_scalefactors.specs.Indices.{granule_of, indices_of}
 use Rattle.c_answers.specs.Replies.{subband_rows, by_granule}
-use Rattle.c_answers.proofs.AnswerLaws.{fits, Putting, put_one, put_all}
 
-module _ {A : Type 0} where
-  -- a part of a slice, written over as many elements
-  pub part_copied : (s old new : List A) (a e n : ℕ) → e ≡ a + n → e ≤ length s → length old ≡ n
-      → new ≡ fitted (take (e - a) (drop a s)) old → new ≡ take n (drop a s)
-  part_copied s old new a e n p h l q =
-      let m : e - a ≡ n = omega arith in
-      fits (take (e - a) (drop a s)) old new (simp (length-take, length-drop) (omega arith)) q ∙ ap (λ (k : ℕ). written (take k (drop a s)) old) m
-      ∙ ap (λ (r : List A). take n (drop a s) ++ r) (drop_of_length-le old {i = length (take n (drop a s))} (simp (length-take, length-drop) (omega arith)))
-      ∙ append-nil (take n (drop a s))
+module _ {A : Type 0} (n : ℕ) where
+  length_chunks : (k : ℕ) (xs : List A) → length (first_chunks n k xs) ≡ k
+  length_chunks zero xs = refl
+  length_chunks (suc k) xs = ap suc (length_chunks k (drop n xs))
 
--- the rows of all subbands
-pub rows_filled : (s : List Float) (rows : List (List Float)) → length rows ≡ 32
-    → ((sb : ℕ) → sb < 32 → get_or rows sb [] ≡ take 36 (drop (36 * sb) s)) → rows ≡ subband_rows s
+  chunk_at : (k : ℕ) (xs : List A) (i : ℕ) → i < k → get_or (first_chunks n k xs) i [] ≡ take n (drop (n * i) xs)
+  chunk_at zero xs i h = absurd (not-suc-le-zero h)
+  chunk_at (suc k) xs zero h = ap (λ m. take n (drop m xs)) (sym (mul-zero n))
+  chunk_at (suc k) xs (suc i) h =
+      chunk_at k (drop n xs) i (le_of_suc-le-suc h) ∙ ap (take n) (drop-drop (n * i) n xs ∙ ap (λ m. drop m xs) (let e : n + n * i ≡ n * suc i = rw mul-suc (omega arith) in e))
+
+-- the first 32 chunks of 36 samples are the rows of the subbands
+rows_taken : (s : List Float) (chunks rows : List (List Float)) → chunks ≡ first_chunks 36 (length s / 36) s → IsFirstChunk chunks rows 32
+    → (1152 ≤ length s) × (rows ≡ subband_rows s)
 unfolding subband_rows
-rows_filled s rows e b = listed 32 (λ sb. take 36 (drop (36 * sb) s)) [] rows e b
+rows_taken s chunks rows e front =
+    let enough : 32 ≤ length s / 36 = rw (← length_chunks 36 (length s / 36) s, ← e) front.enough in (
+      omega arith,
+      listed 32 (λ sb. take 36 (drop (36 * sb) s)) [] rows (ap length front.same ∙ length-take-le 32 chunks front.enough)
+          (λ sb h.
+          ap (λ (r : List (List Float)). get_or r sb []) front.same ∙ get_or-take 32 chunks sb [] h ∙ ap (λ (r : List (List Float)). get_or r sb []) e
+          ∙ chunk_at 36 (length s / 36) s sb (omega arith)),
+    )
 
--- ---- the indices of a frame, written one by one
+-- where there are so many chunks
+pub rows_found : {B : Type 0} (s : List Float) (chunks : List (List Float)) (now : B → List (List Float)) (r : Option B) → chunks ≡ first_chunks 36 (length s / 36) s
+    → MatchOption r (length chunks < 32) (λ rows. IsFirstChunk chunks (now rows) 32)
+    → MatchOption r (length s < 1152) (λ rows. (1152 ≤ length s) × (now rows ≡ subband_rows s))
+rows_found s chunks now None e few =
+    let n : length s / 36 < 32 = rw (← length_chunks 36 (length s / 36) s, ← e) few in
+    omega arith
+rows_found s chunks now (Some rows) e front = rows_taken s chunks (now rows) e front
 
-length_by_granule : (xss : List (List ℕ)) → length (by_granule xss) ≡ 96
-unfolding by_granule
-length_by_granule xss = length_tabulate 96 (λ i. get_or (get_or xss (i / 32) []) (i % 32) 0)
-
-pub index_put : (xss : List (List ℕ)) (old new : List ℕ) (i : ℕ) → 96 ≤ length old → i < 96 → Putting (by_granule xss) old new i
-    → Putting (by_granule xss) old (set new i (get_or (get_or xss (i / 32) []) (i % 32) 0)) (i + 1)
-unfolding by_granule
-index_put xss old new i h l p =
-    let n = length_by_granule xss in
-    subst (λ (v : ℕ). Putting (by_granule xss) old (set new i v) (i + 1))
-    (tabulated 96 (λ i. get_or (get_or xss (i / 32) []) (i % 32) 0) i 0 l)
-    (put_one (by_granule xss) old new i 0 (omega arith) (omega arith) p)
-
-pub indices_put : (xss : List (List ℕ)) (old new : List ℕ) (i : ℕ) → 96 ≤ i → Putting (by_granule xss) old new i → new ≡ written (by_granule xss) old
-indices_put xss old new i h p = let n = length_by_granule xss in put_all (by_granule xss) old new i (omega arith) p
+-- the indices of the granules, one behind the other
+pub flattened : (s : List (List Float)) (limit : ℕ) → flat_map (λ x. x) (indices_of s limit) ≡ by_granule (indices_of s limit)
+unfolding by_granule indices_of granule_of
+flattened s limit = refl

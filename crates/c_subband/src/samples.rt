@@ -1,41 +1,40 @@
 // The codes of samples, and the codewords of three.
-ghost use Rattle.std.proofs.Math.Option.{some};
-ghost use Rattle.std.specs.Prelude.{[], ◌∷◌, ltb, length};
+ghost use Rattle.std.specs.Prelude.{[], ◌∷◌, ltb, length, Some};
 ghost use Rattle.c_answers.specs.Answers.{asked, answered, Answers};
+ghost use Rattle.c_answers.specs.Refusals.{number_in};
 ghost use Rattle.c_answers.specs.Replies.{sample_coded, triplet_coded};
 
+use c_answers::refusal::Refusal;
 use c_answers::{parts, writing};
 
 // The code of a sample in the class of a number of steps.
-pub fn quantize_sample(steps: u32, sample: f64, out: &mut [u32]) -> u32
+pub fn quantize_sample(steps: u32, sample: f64, out: &mut [u32]) -> Result<u32, Refusal>
     ensures { Answers
         (answered
-        (asked (ltb (length out.old) 1) (some steps))
+        (asked (ltb (length out.old) 1) (Some steps))
         (sample_coded sample))
-        out.old result out.new }
+        out.old (number_in result) out.new }
 {
     if out.len() < 1 {
-        return 98;
+        return Err(Refusal::Short);
     }
     let coded = encoder_samples::quantize_sample_for(steps, sample);
     out[0] = parts::sample_code(coded);
-    parts::code_number(coded)
+    Ok(parts::code_number(coded))
 }
 
 // The codewords of three consecutive samples in the class of a number of steps.
-pub fn write_triplet(steps: u32, a: f64, b: f64, c: f64, out: &mut [u32]) -> u32
+pub fn write_triplet(steps: u32, a: f64, b: f64, c: f64, out: &mut [u32]) -> Result<u32, Refusal>
     ensures { Answers
         (answered
-        (asked (ltb (length out.old) 5) (some steps))
+        (asked (ltb (length out.old) 5) (Some steps))
         (triplet_coded (a ∷ b ∷ c ∷ [])))
-        out.old result out.new }
+        out.old (number_in result) out.new }
 {
     if out.len() < 5 {
-        return 98;
+        return Err(Refusal::Short);
     }
     let answer = encoder_samples::write_triplet_for(steps, [a, b, c]);
-    let triplet = answer.triplet;
-    let values = parts::triplet_values(triplet);
-    writing::put(&values, out);
-    answer.number
+    writing::put(&parts::triplet_values(answer), out);
+    Ok(parts::triplet_number(answer))
 }

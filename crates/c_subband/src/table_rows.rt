@@ -1,112 +1,97 @@
 // What a table says of a subband, and the class of quantization and the signal-to-noise ratio of a number of steps.
-ghost use Rattle.std.specs.Prelude.{◌||◌, ltb, length};
-ghost use Rattle.std.proofs.Math.Option.{some};
-ghost use Rattle.c_answers.specs.Answers.{asked, answered, Answers};
+ghost use Rattle.std.specs.Prelude.{◌||◌, ◌≤◌, ltb, length, Some};
+ghost use Rattle.c_answers.specs.Answers.{asked, answered, or_nothing, Answers};
 ghost use Rattle.c_answers.specs.Arguments.{table_meant};
+ghost use Rattle.c_answers.specs.Refusals.{number_in};
 ghost use Rattle.c_answers.specs.Replies.{limits_at, steps_found, index_found, coefficients, class_figures, snr_found};
 
-use bitalloc::{BitAllocTable, OptionTable, OptionU32};
-use c_answers::{parts, writing};
+use c_answers::refusal::Refusal;
+use c_answers::{arguments, parts, writing};
 
 // How many subbands a table carries, and the bits of a subband's allocation field.
-pub fn table_limits(table: u8, sb: u64, out: &mut [u32]) -> u32
+pub fn table_limits(table: u8, sb: u64, out: &mut [u32]) -> Result<u32, Refusal>
     ensures { Answers
         (answered
         (table_meant (ltb (length out.old) 2) table)
         (limits_at sb))
-        out.old result out.new }
+        out.old (number_in result) out.new }
 {
-    if out.len() < 2 {
-        return 98;
-    }
-    let OptionTable::Some(t) = BitAllocTable::numbered(table as u64) else {
-        return 14;
-    };
-    let limits = parts::limits(t, sb as usize);
-    writing::put(&limits, out);
-    0
+    let t = arguments::table(out.len() < 2, table)?;
+    writing::put(&parts::limits(t, sb as usize), out);
+    Ok(0)
 }
 
 // The steps at a place of a subband's row.
-pub fn nb_steps(table: u8, sb: u64, index: u32, out: &mut [u32]) -> u32
+pub fn nb_steps(table: u8, sb: u64, index: u32, out: &mut [u32]) -> Result<u32, Refusal>
     ensures { Answers
         (answered
         (table_meant (ltb (length out.old) 1) table)
         (steps_found sb index))
-        out.old result out.new }
+        out.old (number_in result) out.new }
 {
-    if out.len() < 1 {
-        return 98;
-    }
-    let OptionTable::Some(t) = BitAllocTable::numbered(table as u64) else {
-        return 14;
-    };
-    let found = t.nb_steps(sb as usize, index);
-    let OptionU32::Some(steps) = found else {
-        return 97;
-    };
-    out[0] = steps;
-    0
+    let t = arguments::table(out.len() < 1, table)?;
+    put_found(t.nb_steps(sb as usize, index), out)
 }
 
 // The place of a subband's row that has these steps.
-pub fn allocation_index(table: u8, sb: u64, steps: u32, out: &mut [u32]) -> u32
+pub fn allocation_index(table: u8, sb: u64, steps: u32, out: &mut [u32]) -> Result<u32, Refusal>
     ensures { Answers
         (answered
         (table_meant (ltb (length out.old) 1) table)
         (index_found sb steps))
-        out.old result out.new }
+        out.old (number_in result) out.new }
 {
-    if out.len() < 1 {
-        return 98;
-    }
-    let OptionTable::Some(t) = BitAllocTable::numbered(table as u64) else {
-        return 14;
+    let t = arguments::table(out.len() < 1, table)?;
+    put_found(t.allocation_index(sb as usize, steps), out)
+}
+
+// What is found in a row.
+fn put_found(found: Option<u32>, out: &mut [u32]) -> Result<u32, Refusal>
+    requires { 1 ≤ length out.old }
+    ensures { Answers (or_nothing found) out.old (number_in result) out.new }
+{
+    let Some(value) = found else {
+        return Err(Refusal::Nothing);
     };
-    let found = t.allocation_index(sb as usize, steps);
-    let OptionU32::Some(index) = found else {
-        return 97;
-    };
-    out[0] = index;
-    0
+    out[0] = value;
+    Ok(0)
 }
 
 // The class of quantization of a number of steps.
-pub fn class_of_quantization(steps: u32, cd: &mut [f64], out: &mut [u32]) -> u32
+pub fn class_of_quantization(steps: u32, cd: &mut [f64], out: &mut [u32]) -> Result<u32, Refusal>
     ensures cd_written { Answers
         (answered
-        (asked (ltb (length cd.old) 2 || ltb (length out.old) 4) (some steps))
+        (asked (ltb (length cd.old) 2 || ltb (length out.old) 4) (Some steps))
         coefficients)
-        cd.old result cd.new }
+        cd.old (number_in result) cd.new }
     ensures out_written { Answers
         (answered
-        (asked (ltb (length cd.old) 2 || ltb (length out.old) 4) (some steps))
+        (asked (ltb (length cd.old) 2 || ltb (length out.old) 4) (Some steps))
         class_figures)
-        out.old result out.new }
+        out.old (number_in result) out.new }
 {
     if (cd.len() < 2) | (out.len() < 4) {
-        return 98;
+        return Err(Refusal::Short);
     }
     let found = quantization::class_of_quantization(steps);
     cd[0] = parts::coefficient_c(found);
     cd[1] = parts::coefficient_d(found);
-    let figures = parts::figures(found);
-    writing::put(&figures, out);
-    parts::class_number(found)
+    writing::put(&parts::figures(found), out);
+    Ok(parts::class_number(found))
 }
 
 // The signal-to-noise ratio of a number of steps.
-pub fn snr_db(steps: u32, out: &mut [f64]) -> u32
+pub fn snr_db(steps: u32, out: &mut [f64]) -> Result<u32, Refusal>
     ensures { Answers
         (answered
-        (asked (ltb (length out.old) 1) (some steps))
+        (asked (ltb (length out.old) 1) (Some steps))
         snr_found)
-        out.old result out.new }
+        out.old (number_in result) out.new }
 {
     if out.len() < 1 {
-        return 98;
+        return Err(Refusal::Short);
     }
     let found = encoder_bit_demand::snr_db(steps);
     out[0] = parts::snr_db(found);
-    parts::snr_number(found)
+    Ok(parts::snr_number(found))
 }

@@ -1,4 +1,5 @@
 -- Records that agree where the writer looks are written alike: the steps of every slot, and the scfsi and indices of the active ones.
+use Rattle.std.specs.Prelude.{is_some}
 use mathlib.Core.Path.{◌≡◌, refl, sym, ap, ap₂, ◌∙◌}
 use mathlib.Core.Bool.{Bool, true, false, cond, ◌&&◌}
 use mathlib.Core.List.{List, [], ◌∷◌, ◌++◌, map, flat_map}
@@ -11,7 +12,7 @@ use Rattle.tables.proofs.Listed.{tabulated}
 use Rattle.header.specs.declared.FrameHeader.{FrameHeader}
 use Rattle.header.specs.Questions.{Question, number}
 use Rattle.encoder_bit_budget.specs.Budget.{header_asked}
-use Rattle.bitalloc.specs.Options.{is_some, or_zero}
+use Rattle.bitalloc.specs.Options.{or_zero}
 use Rattle.bitalloc.specs.Tables.{nbal_of, index_of}
 use Rattle.bitalloc.proofs.RowLaws.{sblimit_small}
 use Rattle.layout.specs.declared.Layout.{Layout}

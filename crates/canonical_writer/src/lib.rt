@@ -36,13 +36,11 @@ fn chosen(scalefactor: [u8; 192]) -> [ScfsiSlot; 64]
     let mut slots = [ScfsiSlot {
         scfsi: Scfsi::ThreePerGranule,
     }; 64];
-    let mut slot: usize = 0;
-    while slot < 64 {
+    for slot in 0..64 {
         let at = 3 * slot;
         slots[slot] = ScfsiSlot {
             scfsi: fewest_scfsi(scalefactor[at], scalefactor[at + 1], scalefactor[at + 2]),
         };
-        slot = slot + 1;
     }
     slots
 }
@@ -52,17 +50,10 @@ fn chosen(scalefactor: [u8; 192]) -> [ScfsiSlot; 64]
 pub fn fewest_scfsi(a: u8, b: u8, c: u8) -> Scfsi
     ensures { FewestIs (three a b c) result }
 {
-    if a == b {
-        if b == c {
-            Scfsi::ShareAll
-        } else {
-            Scfsi::Share01Then2
-        }
-    } else {
-        if b == c {
-            Scfsi::Share0Then12
-        } else {
-            Scfsi::ThreePerGranule
-        }
+    match (a == b, b == c) {
+        (true, true) => Scfsi::ShareAll,
+        (true, false) => Scfsi::Share01Then2,
+        (false, true) => Scfsi::Share0Then12,
+        (false, false) => Scfsi::ThreePerGranule,
     }
 }

@@ -1,4 +1,5 @@
 -- Each answer of an allocation from what the budget answered.
+use Rattle.std.specs.Prelude.{Ok, Err}
 use mathlib.Core.Path.{◌≡◌, refl, sym, ap, ap₂, ◌∙◌, subst}
 use mathlib.Core.Bool.{Bool, true, false, cond}
 use mathlib.Core.List.{List, [], ◌∷◌}
@@ -23,11 +24,10 @@ use Rattle.audio_data.specs.Record.{fresh}
 use Rattle.encoder_bit_budget.specs.declared.Request.{Request}
 use Rattle.encoder_bit_budget.specs.declared.FixedBitBudget.{FixedBitBudget}
 use Rattle.encoder_bit_budget.specs.declared.BitAllocError.{BitAllocError}
-use Rattle.encoder_bit_budget.specs.declared.BitAllocError.TheVariants.{RateOffLadder, NoBitallocTable, ZeroSampleRate}
-use Rattle.encoder_bit_budget.specs.declared.Budget.TheVariants.{Ok, Refused}
+use Rattle.encoder_bit_budget.specs.declared.BitAllocError.TheVariants.{RateOffLadder, NoBitallocTable, ZeroSampleRate, InsufficientFrameSize}
 use Rattle.encoder_bit_budget.specs.Budget.{header_asked, error_number, budget_in, budget_of, budget_under, budget_with, layout_in, fixed_in, offered_in, offered_of, natural}
 use Rattle.encoder_bit_demand.specs.Demand.{smr_at}
-use Rattle.encoder_bit_budget.proofs.BudgetLaws.{refusing_header, apart, answer_is, accepted_is}
+use Rattle.encoder_bit_budget.proofs.BudgetLaws.{refusing_header, apart, answer_is, accepted_is, Answered, answered, off, untabled, unrated, served}
 use Rattle.encoder_bit_budget.proofs.BudgetLaws as Header
 use Rattle.encoder_bit_budget.proofs.AvailableLaws.{natural_minus}
 use Rattle.allocation_rounds.specs.declared.Run.{Run}
@@ -35,8 +35,7 @@ use Rattle.allocation_run.specs.Steps.{run_of, steps_of}
 use Rattle.allocation_run.proofs.RunLaws.{same_run}
 use Rattle.allocation_worth.specs.Worth.{Worth}
 use Rattle.allocation_worth.proofs.WorthLaws.{worth}
-use Rattle.encoder_bit_allocator.specs.declared.Allocation.{Allocation}
-use Rattle.encoder_bit_allocator.specs.Allocation.{bits_asked, allocation_asked, worst_case, with_steps, accepted, refused, short, layout_for, allocation_in, allocation_of, AllocationIs}
+use Rattle.encoder_bit_allocator.specs.Allocation.{AllocationAnswer, answer_in, bits_asked, allocation_asked, worst_case, with_steps, accepted, refused, short, layout_for, allocation_in, allocation_of, AllocationIs}
 use Rattle.encoder_bit_allocator.specs.OnTheWay.{CostsAre, allocation_under}
 
 -- ---- the ratios that are handed in are of the format
@@ -148,39 +147,49 @@ module _ (q : Request) (smr : List (List Float)) where
   unfolding allocation_of allocation_in
   where_zero_lem z = ap (allocation_in (asked q) smr q.banc) z
 
-  accepted_worth : ((ch sb : ℕ) → T (fits binary64 (smr_at smr ch sb))) → (r : Allocation)
+  accepted_worth : ((ch sb : ℕ) → T (fits binary64 (smr_at smr ch sb))) → (r : AllocationAnswer)
       → r ≡ accepted (layout_for q) smr (worst_case (layout_for q)) (natural (offered_of q))
       → Worth (layout_for q) smr (worst_case (layout_for q)) (natural (offered_of q)) r.audio.nb_steps r.left
   unfolding accepted
   accepted_worth fit r e =
-      subst (λ (a : Allocation). Worth (layout_for q) smr (worst_case (layout_for q)) (natural (offered_of q)) a.audio.nb_steps a.left) (sym e)
+      subst (λ (a : AllocationAnswer). Worth (layout_for q) smr (worst_case (layout_for q)) (natural (offered_of q)) a.audio.nb_steps a.left) (sym e)
       (worth (layout_for q) smr (worst_case (layout_for q)) (natural (offered_of q)) fit)
 
   -- the whole answer keeps the promise
-  pub answers : (r : Allocation) → ((ch sb : ℕ) → T (fits binary64 (smr_at smr ch sb))) → r ≡ allocation_of q smr → AllocationIs q smr r
+  pub answers : (r : AllocationAnswer) → ((ch sb : ℕ) → T (fits binary64 (smr_at smr ch sb))) → r ≡ allocation_of q smr → AllocationIs q smr r
   answers r fit whole =
-      let n : r.number ≡ number (allocation_asked q) = ap (λ (a : Allocation). a.number) whole ∙ number_is in
+      let n : r.number ≡ number (allocation_asked q) = ap (λ (a : AllocationAnswer). a.number) whole ∙ number_is in
       record {
         whole = whole;
         worth = λ z. accepted_worth fit r (whole ∙ where_zero_lem (sym n ∙ z));
         free = λ f z. n ∙ free_short q f z;
       }
 
-  -- the header is refused
-  pub from_refused : (e : BitAllocError) (n : ℕ) (r : Allocation) → budget_in (Refused e) ≡ budget_of q → n ≡ error_number e → r ≡ refused n
-      → r ≡ allocation_of q smr
-  unfolding allocation_of allocation_in
-  from_refused e n r p s made =
-      let z : number (header_asked q.header) ≡ error_number e = sym (answer_is q) ∙ sym (ap (λ a. a.answer) p) in
-      made ∙ ap refused s ∙ is e ∙ ap (allocation_in (asked q) smr q.banc) (sym (else_header q (rw z (apart e)) ∙ z))
+  -- no header is answered 4
+  never_four : number (header_asked q.header) ≡ 4 → ⊥
+  never_four z = go (answered q.header)
     where
-      is : (e : BitAllocError) → refused (error_number e) ≡ allocation_in (asked q) smr q.banc (error_number e)
-      is RateOffLadder = refl
-      is NoBitallocTable = refl
-      is ZeroSampleRate = refl
+      go : Answered q.header → ⊥
+      go (off n) = let d : ◌≡◌ {A = ℕ} 16 4 = sym n ∙ z in omega arith
+      go (untabled n) = let d : ◌≡◌ {A = ℕ} 1 4 = sym n ∙ z in omega arith
+      go (unrated n) = let d : ◌≡◌ {A = ℕ} 2 4 = sym n ∙ z in omega arith
+      go (served t m n) = let d : ◌≡◌ {A = ℕ} 0 4 = sym n ∙ z in omega arith
+
+  -- the header is refused
+  pub from_refused : (e : BitAllocError) → budget_in (Err e) ≡ budget_of q → answer_in (Err e) ≡ allocation_of q smr
+  unfolding allocation_of allocation_in
+  from_refused e p =
+      let z : number (header_asked q.header) ≡ error_number e = sym (answer_is q) ∙ sym (ap (λ a. a.answer) p) in
+      is e z ∙ ap (allocation_in (asked q) smr q.banc) (sym (else_header q (rw z (apart e)) ∙ z))
+    where
+      is : (e : BitAllocError) → number (header_asked q.header) ≡ error_number e → answer_in (Err e) ≡ allocation_in (asked q) smr q.banc (error_number e)
+      is RateOffLadder z = refl
+      is NoBitallocTable z = refl
+      is ZeroSampleRate z = refl
+      is (InsufficientFrameSize cb fixed banc) z = absurd (never_four z)
 
   -- it is accepted, and the bits are asked
-  pub from_accepted : (b : FixedBitBudget) (r : Allocation) → budget_in (Ok b) ≡ budget_of q → r ≡ allocation_under b smr q.banc → r ≡ allocation_of q smr
+  pub from_accepted : (b : FixedBitBudget) (r : AllocationAnswer) → budget_in (Ok b) ≡ budget_of q → r ≡ allocation_under b smr q.banc → r ≡ allocation_of q smr
   unfolding allocation_of allocation_under
   from_accepted b r ok p =
       let z : number (header_asked q.header) ≡ 0 = sym (answer_is q) ∙ sym (ap (λ a. a.answer) ok) in
@@ -191,7 +200,7 @@ module _ (q : Request) (smr : List (List Float)) where
 -- what `accepted` answers
 pub made : (l : Layout) (smr : List (List Float)) (costs : List ℕ) (offered : ℕ) (r : Run) (d : AudioData) (steps : List ℕ)
     → r ≡ run_of l smr costs offered → d ≡ fresh l → steps ≡ steps_of l r.places
-    → ◌≡◌ {A = Allocation} (record { number = 0; audio = with_steps d steps; left = r.left; cb = 0; fixed = 0; banc = 0 }) (accepted l smr costs offered)
+    → ◌≡◌ {A = AllocationAnswer} (record { number = 0; audio = with_steps d steps; left = r.left; cb = 0; fixed = 0; banc = 0 }) (accepted l smr costs offered)
 unfolding accepted
 made l smr costs offered r d steps w e q =
     let s = q ∙ ap (λ (s : Run). steps_of l s.places) w in
@@ -205,7 +214,7 @@ same_costs l smr costs offered c =
     (same_run l smr costs (worst_case l) offered c)
 
 module _ (b : FixedBitBudget) (smr : List (List Float)) (banc : ℕ) where
-  pub under_accepted : (r : Allocation) (l : Layout) (costs : List ℕ) (fixed : ℕ) → fixed ≡ fixed_in b → fixed + banc ≤ b.cb → l ≡ layout_in b → CostsAre l costs
+  pub under_accepted : (r : AllocationAnswer) (l : Layout) (costs : List ℕ) (fixed : ℕ) → fixed ≡ fixed_in b → fixed + banc ≤ b.cb → l ≡ layout_in b → CostsAre l costs
       → r ≡ accepted l smr costs (b.cb - (fixed + banc)) → r ≡ allocation_under b smr banc
   unfolding allocation_under allocation_in
   under_accepted r l costs fixed f m e c p =
@@ -216,8 +225,8 @@ module _ (b : FixedBitBudget) (smr : List (List Float)) (banc : ℕ) where
       ∙ ap₂ (λ (l : Layout) (n : ℕ). accepted l smr (worst_case l) n) e o
       ∙ ap (allocation_in b smr banc) (sym (enough b banc k))
 
-  pub under_short : (r : Allocation) (fixed : ℕ) → fixed ≡ fixed_in b → b.cb < fixed + banc → r ≡ short b.cb fixed banc → r ≡ allocation_under b smr banc
+  pub under_short : (fixed : ℕ) → fixed ≡ fixed_in b → b.cb < fixed + banc → short b.cb fixed banc ≡ allocation_under b smr banc
   unfolding allocation_under allocation_in
-  under_short r fixed f m p =
+  under_short fixed f m =
       let k : b.cb < fixed_in b + banc = subst (λ (n : ℕ). b.cb < n + banc) f m in
-      p ∙ ap (λ (n : ℕ). short b.cb n banc) f ∙ ap (allocation_in b smr banc) (sym (too_short b banc k))
+      ap (λ (n : ℕ). short b.cb n banc) f ∙ ap (allocation_in b smr banc) (sym (too_short b banc k))

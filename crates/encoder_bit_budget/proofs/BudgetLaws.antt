@@ -1,8 +1,8 @@
 -- Each answer of the budget from what the questions found, and the bounds of an accepted one.
+use Rattle.std.specs.Prelude.{Option, None, Some, is_some, Result, Ok, Err}
 use mathlib.Core.Path.{◌≡◌, refl, sym, ap, ap₂, ◌∙◌, subst}
 use mathlib.Core.Bool.{Bool, true, false, not, cond, true≢false}
 use mathlib.Core.List.{[], ◌∷◌}
-use mathlib.Core.Option.{Option, none, some}
 use Prim.Native.Nat.{ℕ, zero, suc, ◌*◌, ◌≤◌}
 use native.Mathlib.Nat.{mul-le-mul_right, div-le_self}
 use native.Mathlib.Omega.{arith}
@@ -11,7 +11,6 @@ use borrow.Author.Tests.{le-leb, eq-eqb}
 use Rattle.header.specs.declared.FrameHeader.{FrameHeader}
 use Rattle.header.specs.declared.Mode.{Mode}
 use Rattle.header.specs.declared.Mode.TheVariants.{Stereo, JointStereo, DualChannel, SingleChannel}
-use Rattle.header.specs.declared.FrameSize.TheVariants as Size
 use Rattle.header.specs.Questions.{first_no, number}
 use Rattle.header.specs.Header.{channels_of, bound_of, frame_bytes, size_of, frame_size, sample_rate_asked}
 use Rattle.header.proofs.QuestionLaws.{said_yes, said_no, refusing, all_yes, some_no}
@@ -19,7 +18,6 @@ use Rattle.ladder.specs.Ladder.{on_ladder}
 use Rattle.ladder.proofs.LadderLaws.{at_most}
 use Rattle.bitalloc.specs.declared.BitAllocTable.{BitAllocTable}
 use Rattle.bitalloc.specs.declared.BitAllocTable.TheVariants.{B2a, B2b, B2c, B2d, B1Lsf}
-use Rattle.bitalloc.specs.Options.{is_some}
 use Rattle.tables.specs.Sum.{sum_below}
 use Rattle.bitalloc.specs.Tables.{nbal_of, sblimit_of}
 use Rattle.table_selection.specs.Select.{table_of}
@@ -31,9 +29,7 @@ use Rattle.layout.proofs.SumLaws.{sum_append, two_at_most, counted}
 use Rattle.encoder_bit_budget.specs.declared.Request.{Request}
 use Rattle.encoder_bit_budget.specs.declared.FixedBitBudget.{FixedBitBudget}
 use Rattle.encoder_bit_budget.specs.declared.BitAllocError.{BitAllocError}
-use Rattle.encoder_bit_budget.specs.declared.BitAllocError.TheVariants.{RateOffLadder, NoBitallocTable, ZeroSampleRate}
-use Rattle.encoder_bit_budget.specs.declared.Budget.{Budget}
-use Rattle.encoder_bit_budget.specs.declared.Budget.TheVariants.{Ok, Refused}
+use Rattle.encoder_bit_budget.specs.declared.BitAllocError.TheVariants.{RateOffLadder, NoBitallocTable, ZeroSampleRate, InsufficientFrameSize}
 use Rattle.encoder_bit_budget.specs.Budget.{plain, bit_rate_asked, table_asked, size_asked, header_asked, error_number, crc_bits, allocation_bits, budget_with, budget_under, layout_in, budget_in, budget_of, accepted_under, Bounded, BudgetIs}
 
 -- ---- what the frame's size tells
@@ -42,7 +38,7 @@ pub record Sized (h : FrameHeader) (n : ℕ) : Type 0 where
   pub rated : eqb h.sample_rate 0 ≡ false
   pub many : n ≡ frame_bytes h
 
-pub sized : (h : FrameHeader) (n : ℕ) → size_of (Size.Bytes n) ≡ frame_size h → Sized h n
+pub sized : (h : FrameHeader) (n : ℕ) → size_of (Some n) ≡ frame_size h → Sized h n
 unfolding frame_size
 sized h n e = go (eqb h.sample_rate 0) refl
   where
@@ -50,7 +46,7 @@ sized h n e = go (eqb h.sample_rate 0) refl
     go true p = let z = ap (λ s. s.answer) e in absurd (omega (arith, rw p at z))
     go false p = record { rated = p; many = rw p at (ap (λ s. s.bytes) e) }
 
-pub not_sized : (h : FrameHeader) → size_of Size.ZeroSampleRate ≡ frame_size h → eqb h.sample_rate 0 ≡ true
+pub not_sized : (h : FrameHeader) → size_of None ≡ frame_size h → eqb h.sample_rate 0 ≡ true
 unfolding frame_size
 not_sized h e = go (eqb h.sample_rate 0) refl
   where
@@ -78,10 +74,10 @@ module _ (h : FrameHeader) where
     unfolding header_asked
     after_rate = said_yes 0 (bit_rate_asked h) (table_asked h ∷ sample_rate_asked h ∷ size_asked h ∷ []) on
 
-    pub no_table : table_of h ≡ none → number (header_asked h) ≡ 1
+    pub no_table : table_of h ≡ None → number (header_asked h) ≡ 1
     no_table e = after_rate ∙ said_no 0 (table_asked h) (sample_rate_asked h ∷ size_asked h ∷ []) (ap is_some e)
 
-    module _ (t : BitAllocTable) (named : table_of h ≡ some t) where
+    module _ (t : BitAllocTable) (named : table_of h ≡ Some t) where
       after_table : number (header_asked h) ≡ number (sample_rate_asked h ∷ size_asked h ∷ [])
       after_table = after_rate ∙ said_yes 0 (table_asked h) (sample_rate_asked h ∷ size_asked h ∷ []) (ap is_some named)
 
@@ -101,16 +97,16 @@ module _ (h : FrameHeader) where
     off : number (header_asked h) ≡ 16 → Answered
     untabled : number (header_asked h) ≡ 1 → Answered
     unrated : number (header_asked h) ≡ 2 → Answered
-    served : (t : BitAllocTable) → table_of h ≡ some t → number (header_asked h) ≡ 0 → Answered
+    served : (t : BitAllocTable) → table_of h ≡ Some t → number (header_asked h) ≡ 0 → Answered
 
   pub answered : Answered
   answered = go (on_ladder h) refl (table_of h) refl (eqb h.sample_rate 0) refl
     where
       go : (on : Bool) → on_ladder h ≡ on → (o : Option BitAllocTable) → table_of h ≡ o → (z : Bool) → eqb h.sample_rate 0 ≡ z → Answered
       go false l o n z r = off (off_ladder l)
-      go true l none n z r = untabled (no_table l n)
-      go true l (some t) n true r = unrated (no_sample_rate l t n r)
-      go true l (some t) n false r = served t n (all_asked l t n r)
+      go true l None n z r = untabled (no_table l n)
+      go true l (Some t) n true r = unrated (no_sample_rate l t n r)
+      go true l (Some t) n false r = served t n (all_asked l t n r)
 
 -- each of them refuses by a number that is not 0
 pub refusing_header : (h : FrameHeader) → T (refusing (header_asked h))
@@ -197,21 +193,23 @@ pub apart : (e : BitAllocError) → eqb (error_number e) 0 ≡ false
 apart RateOffLadder = refl
 apart NoBitallocTable = refl
 apart ZeroSampleRate = refl
+apart (InsufficientFrameSize cb fixed banc) = refl
 
 module _ (q : Request) where
-  refused_is : (e : BitAllocError) → number (header_asked q.header) ≡ error_number e → budget_in (Refused e) ≡ budget_of q
+  refused_is : (e : BitAllocError) → number (header_asked q.header) ≡ error_number e → budget_in (Err e) ≡ budget_of q
   unfolding budget_of
   refused_is RateOffLadder n = rw n
   refused_is NoBitallocTable n = rw n
   refused_is ZeroSampleRate n = rw n
+  refused_is (InsufficientFrameSize cb fixed banc) n = rw n
 
-  no_budget_lem : (e : BitAllocError) (b : FixedBitBudget) → Refused e ≡ Ok b → Bounded b
+  no_budget_lem : (e : BitAllocError) (b : FixedBitBudget) → Err e ≡ Ok b → Bounded b
   no_budget_lem e b p = absurd (let z = ap (λ r. (budget_in r).answer) p in true≢false (sym (eq-eqb (error_number e) 0 z) ∙ apart e))
 
-  pub refused : (e : BitAllocError) → number (header_asked q.header) ≡ error_number e → BudgetIs q (Refused e)
+  pub refused : (e : BitAllocError) → number (header_asked q.header) ≡ error_number e → BudgetIs q (Err e)
   refused e n = record { whole = refused_is e n; bounded = no_budget_lem e }
 
-  pub accepted : (t : BitAllocTable) (b : FixedBitBudget) → table_of q.header ≡ some t → number (header_asked q.header) ≡ 0 → b ≡ budget_under q t
+  pub accepted : (t : BitAllocTable) (b : FixedBitBudget) → table_of q.header ≡ Some t → number (header_asked q.header) ≡ 0 → b ≡ budget_under q t
       → BudgetIs q (Ok b)
   unfolding budget_of
   accepted t b named n p = record {
@@ -219,17 +217,17 @@ module _ (q : Request) where
     bounded = λ d r. subst Bounded (sym p ∙ held r) (bounds q t);
   }
     where
-      held : {c d : FixedBitBudget} → Ok c ≡ Ok d → c ≡ d
+      held : {c d : FixedBitBudget} → ◌≡◌ {A = Result FixedBitBudget BitAllocError} (Ok c) (Ok d) → c ≡ d
       held e = cc
 
   -- the ancillary bits are not read
   same_under : (n : ℕ) (o : Option BitAllocTable) → accepted_under (plain q.header 0) n o ≡ accepted_under q n o
   unfolding budget_under
-  same_under zero none = refl
-  same_under zero (some t) = refl
+  same_under zero None = refl
+  same_under zero (Some t) = refl
   same_under (suc n) o = refl
 
-  pub same_budget : (r : Budget) → BudgetIs (plain q.header 0) r → BudgetIs q r
+  pub same_budget : (r : Result FixedBitBudget BitAllocError) → BudgetIs (plain q.header 0) r → BudgetIs q r
   unfolding budget_of
   same_budget r b =
       let n = number (header_asked q.header) in
@@ -247,7 +245,7 @@ module _ (q : Request) where
 
   module _ (b : FixedBitBudget) (ok : budget_in (Ok b) ≡ budget_of q) where
     -- an accepted budget is the one under its own table, which is the one selected
-    named : (table_of q.header ≡ some b.table) × (b ≡ budget_under q b.table)
+    named : (table_of q.header ≡ Some b.table) × (b ≡ budget_under q b.table)
     unfolding budget_of
     named = go (answered q.header)
       where
@@ -257,16 +255,16 @@ module _ (q : Request) where
         w : b ≡ accepted_under q 0 (table_of q.header)
         w = subst (λ (n : ℕ). b ≡ accepted_under q n (table_of q.header)) (sym z) (ap (λ a. a.budget) ok)
 
-        go : Answered q.header → (table_of q.header ≡ some b.table) × (b ≡ budget_under q b.table)
+        go : Answered q.header → (table_of q.header ≡ Some b.table) × (b ≡ budget_under q b.table)
         go (off n) = let e = z ∙ n in absurd (omega arith)
         go (untabled n) = let e = z ∙ n in absurd (omega arith)
         go (unrated n) = let e = z ∙ n in absurd (omega arith)
         go (served t p n) =
             let r = subst (λ o. b ≡ accepted_under q 0 o) p w in
             let s = sym (table_of_lem b t r) in
-            (p ∙ ap some s, r ∙ ap (budget_under q) s)
+            (p ∙ ap Some s, r ∙ ap (budget_under q) s)
 
-    pub table_is : table_of q.header ≡ some b.table
+    pub table_is : table_of q.header ≡ Some b.table
     table_is = named.0
 
     pub accepted_is : b ≡ budget_under q b.table

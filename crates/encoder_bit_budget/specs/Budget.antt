@@ -1,6 +1,5 @@
 -- The bits of a frame before any is spent on samples: ISO/IEC 11172-3 C.1.5.2.7, cb, bhdr, bcrc and bbal.
-use Rattle.std.specs.Prelude.{ℕ, zero, suc, ◌+◌, ◌*◌, ◌≤◌, ◌≡◌, Bool, cond, List, [], ◌∷◌, leb, eqb, ℤ, pos, negsuc}
-use Rattle.std.proofs.Math.Option.{Option, none, some}
+use Rattle.std.specs.Prelude.{ℕ, zero, suc, ◌+◌, ◌*◌, ◌≤◌, ◌≡◌, Bool, cond, List, [], ◌∷◌, leb, eqb, ℤ, pos, negsuc, Option, None, Some, is_some, Result, Ok, Err}
 use Rattle.std.specs.Float.Ieee.{minus}
 use Rattle.header.specs.declared.FrameHeader.{FrameHeader}
 use Rattle.header.specs.Questions.{Question, number}
@@ -8,7 +7,6 @@ use Rattle.header.specs.Header.{frame_bytes, sample_rate_asked}
 use Rattle.ladder.specs.Ladder.{on_ladder}
 use Rattle.bitalloc.specs.declared.BitAllocTable.{BitAllocTable}
 use Rattle.bitalloc.specs.declared.BitAllocTable.TheVariants.{B2a}
-use Rattle.bitalloc.specs.Options.{is_some}
 use Rattle.bitalloc.specs.Tables.{nbal_of}
 use Rattle.table_selection.specs.Select.{table_of}
 use Rattle.layout.specs.declared.Layout.{Layout}
@@ -16,11 +14,7 @@ use Rattle.layout.specs.Layout.{layout_of, limit_of, fields_of, sum_over}
 use Rattle.encoder_bit_budget.specs.declared.Request.{Request}
 use Rattle.encoder_bit_budget.specs.declared.FixedBitBudget.{FixedBitBudget}
 use Rattle.encoder_bit_budget.specs.declared.BitAllocError.{BitAllocError}
-use Rattle.encoder_bit_budget.specs.declared.BitAllocError.TheVariants.{RateOffLadder, NoBitallocTable, ZeroSampleRate}
-use Rattle.encoder_bit_budget.specs.declared.Budget.{Budget}
-use Rattle.encoder_bit_budget.specs.declared.Budget.TheVariants.{Ok, Refused}
-use Rattle.encoder_bit_budget.specs.declared.AvailableBits.{AvailableBits}
-use Rattle.encoder_bit_budget.specs.declared.AvailableBits.TheVariants as A
+use Rattle.encoder_bit_budget.specs.declared.BitAllocError.TheVariants.{RateOffLadder, NoBitallocTable, ZeroSampleRate, InsufficientFrameSize}
 
 -- ---- what is asked
 
@@ -49,6 +43,7 @@ abbrev pub error_number : BitAllocError → ℕ
 error_number RateOffLadder = 16
 error_number NoBitallocTable = 1
 error_number ZeroSampleRate = 2
+error_number (InsufficientFrameSize cb fixed banc) = 4
 
 -- ---- the budget of an accepted header
 
@@ -99,15 +94,15 @@ pub record BudgetAnswer : Type 0 where
   pub answer : ℕ
   pub budget : FixedBitBudget
 
--- what each case of the enum stands for
-abbrev pub budget_in : Budget → BudgetAnswer
+-- what the answer stands for: a refusal has its number and the filler
+abbrev pub budget_in : Result FixedBitBudget BitAllocError → BudgetAnswer
 budget_in (Ok b) = record { answer = 0; budget = b }
-budget_in (Refused e) = record { answer = error_number e; budget = no_budget }
+budget_in (Err e) = record { answer = error_number e; budget = no_budget }
 
 -- under a number, the budget with the table that was selected
 abbrev pub accepted_under : Request → ℕ → Option BitAllocTable → FixedBitBudget
-accepted_under q zero (some t) = budget_under q t
-accepted_under q zero none = no_budget  -- question 1 has asked for a table
+accepted_under q zero (Some t) = budget_under q t
+accepted_under q zero None = no_budget  -- question 1 has asked for a table
 accepted_under q (suc n) o = no_budget
 
 unfoldable pub budget_of : Request → BudgetAnswer
@@ -132,10 +127,10 @@ pub record Available : Type 0 where
   pub answer : ℕ
   pub bits : ℤ
 
--- what each case of the enum stands for
-abbrev pub available_in : AvailableBits → Available
-available_in (A.Bits z) = record { answer = 0; bits = z }
-available_in (A.Refused e) = record { answer = error_number e; bits = pos 0 }
+-- what the answer stands for
+abbrev pub available_in : Result ℤ BitAllocError → Available
+available_in (Ok z) = record { answer = 0; bits = z }
+available_in (Err e) = record { answer = error_number e; bits = pos 0 }
 
 -- from the budget's answer
 unfoldable pub available_by : ℕ → BudgetAnswer → Available
@@ -159,6 +154,6 @@ pub record Bounded (b : FixedBitBudget) : Type 0 where
   pub bound : b.bound ≤ b.sblimit
   pub channels : b.channels ≤ 2
 
-pub record BudgetIs (q : Request) (r : Budget) : Type 0 where
+pub record BudgetIs (q : Request) (r : Result FixedBitBudget BitAllocError) : Type 0 where
   pub whole : budget_in r ≡ budget_of q
   pub bounded : (b : FixedBitBudget) → r ≡ Ok b → Bounded b

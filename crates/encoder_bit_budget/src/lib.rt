@@ -3,13 +3,13 @@
 #![tactic(auto)]
 
 ghost use Rattle.std.specs.Prelude.{◌≡◌, true};
-ghost use Rattle.std.proofs.Math.Option.{some};
+ghost use Rattle.std.specs.Prelude.{Some};
 ghost use Rattle.ladder.specs.Ladder.{on_ladder};
 ghost use Rattle.table_selection.specs.Select.{table_of};
-ghost use Rattle.encoder_bit_budget.specs.Budget.{error_number, plain, crc_bits, allocation_bits, fixed_in, layout_in, budget_with, budget_in, available_in, available_by, available_of, BudgetIs};
+ghost use Rattle.encoder_bit_budget.specs.Budget.{error_number, plain, crc_bits, allocation_bits, fixed_in, layout_in, budget_with, available_in, available_of, offered_in, BudgetIs};
 
-use bitalloc::{BitAllocTable, OptionTable};
-use header::{FrameHeader, FrameSize};
+use bitalloc::BitAllocTable;
+use header::FrameHeader;
 use layout::Layout;
 
 // What is asked of a frame's bits.
@@ -20,12 +20,14 @@ pub struct Request {
     pub banc: u32,
 }
 
-// Why a header has no budget.
-#[derive(Clone, Copy)]
+// Why a header has no budget, or a budget no allocation.
+#[derive(Clone, Copy, Debug, PartialEq, Eq)]
 pub enum BitAllocError {
     RateOffLadder,
     NoBitallocTable,
     ZeroSampleRate,
+    // The frame's `cb` bits do not hold the `fixed` ones and the caller's `banc`: an allocation's refusal, and no budget's.
+    InsufficientFrameSize { cb: u32, fixed: u32, banc: u32 },
 }
 
 impl BitAllocError {
@@ -37,6 +39,7 @@ impl BitAllocError {
             BitAllocError::RateOffLadder => 16,
             BitAllocError::NoBitallocTable => 1,
             BitAllocError::ZeroSampleRate => 2,
+            BitAllocError::InsufficientFrameSize { .. } => 4,
         }
     }
 }
@@ -75,7 +78,15 @@ impl FixedBitBudget {
     pub fn fixed(self) -> u64
         ensures { result ≡ fixed_in self }
     {
-        (self.bhdr as u64) + (self.bcrc as u64) + (self.bbal as u64)
+        u64::from(self.bhdr) + u64::from(self.bcrc) + u64::from(self.bbal)
+    }
+
+    // The bits that are left beside the fixed ones and `banc` ancillary bits; below 0 where they do not fit the frame.
+    pub fn offered(self, banc: u32) -> i64
+        ensures { result ≡ offered_in self banc }
+    {
+        let spent = self.fixed() + (banc as u64);
+        (self.cb as i64) - (spent as i64)
     }
 
     // Where the frame's fields are.
@@ -91,59 +102,38 @@ impl FixedBitBudget {
     }
 }
 
-// What `fixed_bit_budget` answers.
-#[derive(Clone, Copy)]
-pub enum Budget {
-    Ok(FixedBitBudget),
-    Refused(BitAllocError),
-}
-
-impl Budget {
-    // The answer's number: 0 where the budget is accepted.
-    pub fn refusal(self) -> u32
-        ensures { result ≡ (budget_in self).answer }
-    {
-        match self {
-            Budget::Ok(_) => 0,
-            Budget::Refused(error) => error.number(),
-        }
-    }
-}
-
 impl Request {
     // The bits that are fixed for the frame.
-    pub fn budget(self) -> Budget
+    pub fn budget(self) -> Result<FixedBitBudget, BitAllocError>
         ensures { BudgetIs self result }
     {
         let header = self.header;
         if !ladder::on_ladder(header) {
-            return Budget::Refused(BitAllocError::RateOffLadder);
+            return Err(BitAllocError::RateOffLadder);
         }
-        let selected = table_selection::select_table(header);
-        match selected {
-            OptionTable::Some(table) => budget_under(header, table),
-            OptionTable::None => Budget::Refused(BitAllocError::NoBitallocTable),
-        }
+        let Some(table) = table_selection::select_table(header) else {
+            return Err(BitAllocError::NoBitallocTable);
+        };
+        budget_under(header, table)
     }
 }
 
 // The budget under the table that was selected. At 384 kbit/s, the ladder's end, and 1 Hz a frame would have 55,296,001 bytes with padding, so the
 // bits of every frame fit 32 bits.
-fn budget_under(header: FrameHeader, table: BitAllocTable) -> Budget
+fn budget_under(header: FrameHeader, table: BitAllocTable) -> Result<FixedBitBudget, BitAllocError>
     requires rate { on_ladder header ≡ true }
-    requires named { table_of header ≡ some table }
+    requires named { table_of header ≡ Some table }
     ensures { BudgetIs (plain header 0) result }
 {
-    let size = header.frame_size_bytes();
-    let FrameSize::Bytes(bytes) = size else {
-        return Budget::Refused(BitAllocError::ZeroSampleRate);
+    let Some(bytes) = header.frame_size_bytes() else {
+        return Err(BitAllocError::ZeroSampleRate);
     };
     let layout = Layout::of_header(header, table);
-    Budget::Ok(budget_with(8 * (bytes as u32), header.protection_bit, layout))
+    Ok(budget_with(8 * (bytes as u32), header.protection_bit, layout))
 }
 
 // The bits that are fixed for a header's frame.
-pub fn fixed_bit_budget(header: FrameHeader) -> Budget
+pub fn fixed_bit_budget(header: FrameHeader) -> Result<FixedBitBudget, BitAllocError>
     ensures { BudgetIs (plain header 0) result }
 {
     let request = Request { header, banc: 0 };
@@ -187,61 +177,17 @@ fn allocation_bits(layout: Layout) -> u32
     let table = layout.table;
     let fields = layout.fields();
     let mut bits: u32 = 0;
-    let mut f: usize = 0;
-    while f < fields {
+    for f in 0..fields {
         let field = layout.field(f);
-        bits = bits + table.nbal(field.subband);
-        f = f + 1;
+        bits += table.nbal(field.subband);
     }
     bits
 }
 
-// What `available_data_bits` answers: the bits, which may be below 0, or the header's refusal.
-#[derive(Clone, Copy)]
-pub enum AvailableBits {
-    Bits(i64),
-    Refused(BitAllocError),
-}
-
-impl AvailableBits {
-    // The answer's number: 0 where the header is accepted.
-    pub fn refusal(self) -> u32
-        ensures { result ≡ (available_in self).answer }
-    {
-        match self {
-            AvailableBits::Bits(_) => 0,
-            AvailableBits::Refused(error) => error.number(),
-        }
-    }
-
-    // The bits; 0 where the header is refused.
-    pub fn bits(self) -> i64
-        ensures { result ≡ (available_in self).bits }
-    {
-        match self {
-            AvailableBits::Bits(bits) => bits,
-            AvailableBits::Refused(_) => 0,
-        }
-    }
-}
-
-// What the frame offers to samples and scalefactors beside `banc` ancillary bits.
-pub fn available_data_bits(header: FrameHeader, banc: u32) -> AvailableBits
+// What the frame offers to samples and scalefactors beside `banc` ancillary bits; it may be below 0.
+pub fn available_data_bits(header: FrameHeader, banc: u32) -> Result<i64, BitAllocError>
     ensures { available_in result ≡ available_of (plain header banc) }
 {
-    let request = Request { header, banc };
-    available_in(request.budget(), banc)
-}
-
-// What a budget offers.
-fn available_in(budget: Budget, banc: u32) -> AvailableBits
-    ensures { available_in result ≡ available_by banc (budget_in budget) }
-{
-    match budget {
-        Budget::Ok(b) => {
-            let spent = b.fixed() + (banc as u64);
-            AvailableBits::Bits((b.cb as i64) - (spent as i64))
-        }
-        Budget::Refused(error) => AvailableBits::Refused(error),
-    }
+    let budget = Request { header, banc }.budget()?;
+    Ok(budget.offered(banc))
 }

@@ -1,10 +1,10 @@
 -- Every number of a row is in Table C.5, above place 0 in Table 3-B.4 too, by a test that antt computes over the rows; so along a row the
 -- ratios and the sample bits rise.
+use Rattle.std.specs.Prelude.{Option, None, Some, is_some}
 use mathlib.Core.Path.{◌≡◌, refl, sym, ap, ◌∙◌}
 use mathlib.Core.Bool.{Bool, not, ◌&&◌, ◌||◌}
 use mathlib.Core.List.{List, [], ◌∷◌}
 use mathlib.Core.Logic.{⊎_elim}
-use mathlib.Core.Option.{Option, none, some}
 use Prim.Native.Nat.{ℕ, zero, suc, ◌≤◌, ◌<◌}
 use native.Mathlib.Decide.{dec_lt}
 use native.Mathlib.Nat.{not-suc-le-zero, le_of_suc-le-suc, zero-lt-suc, eq-or-lt_of_le, le_of_eq, le_of_lt}
@@ -24,7 +24,6 @@ use Rattle.bitalloc.specs.Tables.{row_of, sblimit_of}
 use Rattle.quantization.specs.Classes.{classes, class_of, sample_bits, frame_bits}
 use Rattle.bitalloc.proofs.RowLaws.{row_rule, row_rises, no_row}
 use Rattle.encoder_bit_demand.specs.Snr.{snr_of, snr, or_nan}
-use Rattle.bitalloc.specs.Options.{is_some}
 use Rattle.encoder_bit_demand.proofs.SnrLaws.{keys, SnrRule, snr_rule, snr_le}
 
 -- ---- the numbers of a row
@@ -64,9 +63,9 @@ all_within p [] i t h = absurd (not-suc-le-zero h)
 all_within p (x ∷ xs) zero t h = first (p x) (all p xs) t
 all_within p (x ∷ xs) (suc i) t h = all_within p xs i (second (p x) (all p xs) t) (le_of_suc-le-suc h)
 
-held : {A : Type 0} (o : Option A) → T (is_some o) → (x : A) × (o ≡ some x)
-held none t = absurd t
-held (some x) t = (x, refl)
+held : {A : Type 0} (o : Option A) → T (is_some o) → (x : A) × (o ≡ Some x)
+held None t = absurd t
+held (Some x) t = (x, refl)
 
 -- ---- Table C.5
 
@@ -75,13 +74,13 @@ unfolding snr_of
 computed_snrs = tt
 
 -- at every place, and past the last, where 0 stands
-pub row_snr : (t : BitAllocTable) (sb i : ℕ) → snr_of (get_or (row_of t sb) i 0) ≡ some (snr (get_or (row_of t sb) i 0))
+pub row_snr : (t : BitAllocTable) (sb i : ℕ) → snr_of (get_or (row_of t sb) i 0) ≡ Some (snr (get_or (row_of t sb) i 0))
 unfolding keyed one_of
 row_snr t sb i =
     let n = get_or (row_of t sb) i 0 in
     let k = all_at (one_of keys) (row_of t sb) 0 tt (first (all (one_of keys) (row_of t sb)) _ (row_keyed t sb)) i in
     let g = held (snr_of n) (of_member (λ n. is_some (snr_of n)) keys n computed_snrs k) in
-    g.1 ∙ ap some (sym (ap or_nan g.1))
+    g.1 ∙ ap Some (sym (ap or_nan g.1))
 
 pub row_snr_rule : (t : BitAllocTable) (sb i : ℕ) → SnrRule (snr (get_or (row_of t sb) i 0))
 row_snr_rule t sb i = snr_rule (get_or (row_of t sb) i 0) (snr (get_or (row_of t sb) i 0)) (row_snr t sb i)
@@ -103,12 +102,12 @@ unfolding class_of
 computed_classes = tt
 
 pub row_class : (t : BitAllocTable) (sb i : ℕ) → 0 < i → i < length (row_of t sb)
-    → (q : QuantClass) × (class_of (get_or (row_of t sb) i 0) ≡ some q)
+    → (q : QuantClass) × (class_of (get_or (row_of t sb) i 0) ≡ Some q)
 unfolding keyed
 row_class t sb zero l h = absurd (not-suc-le-zero l)
 row_class t sb (suc i) l h = go (row_of t sb) (second (all (one_of keys) (row_of t sb)) _ (row_keyed t sb)) h
   where
-    go : (row : List ℕ) → T (all (one_of class_keys) (drop 1 row)) → suc i < length row → (q : QuantClass) × (class_of (get_or row (suc i) 0) ≡ some q)
+    go : (row : List ℕ) → T (all (one_of class_keys) (drop 1 row)) → suc i < length row → (q : QuantClass) × (class_of (get_or row (suc i) 0) ≡ Some q)
     go [] k h = absurd (not-suc-le-zero h)
     go (x ∷ row) k h =
         held (class_of (get_or row i 0))
@@ -117,25 +116,25 @@ row_class t sb (suc i) l h = go (row_of t sb) (second (all (one_of keys) (row_of
 -- the sample bits rise with the steps, from above 0
 costlier : QuantClass → QuantClass → Bool
 costlier p q =
-    ltb 0 (frame_bits (some p)) && (not (ltb p.nb_steps q.nb_steps) || ltb (frame_bits (some p)) (frame_bits (some q)))
+    ltb 0 (frame_bits (Some p)) && (not (ltb p.nb_steps q.nb_steps) || ltb (frame_bits (Some p)) (frame_bits (Some q)))
 
 computed_costs : T (all (λ p. all (costlier p) classes) classes)
 unfolding costlier classes
 computed_costs = tt
 
-class_costs : (a b : ℕ) (p q : QuantClass) → class_of a ≡ some p → class_of b ≡ some q
-    → (0 < frame_bits (some p)) × (a < b → frame_bits (some p) < frame_bits (some q))
+class_costs : (a b : ℕ) (p q : QuantClass) → class_of a ≡ Some p → class_of b ≡ Some q
+    → (0 < frame_bits (Some p)) × (a < b → frame_bits (Some p) < frame_bits (Some q))
 unfolding class_of costlier
 class_costs a b p q e f =
     let g = find_passes (λ r. eqb r.nb_steps a) (λ p. all (costlier p) classes) classes p computed_costs e in
     let d = find_passes (λ r. eqb r.nb_steps b) (costlier p) classes q g.1 f in
-    let more = second (ltb 0 (frame_bits (some p))) _ d.1 in (
-      ltb→lt _ _ (first (ltb 0 (frame_bits (some p))) _ d.1),
+    let more = second (ltb 0 (frame_bits (Some p))) _ d.1 in (
+      ltb→lt _ _ (first (ltb 0 (frame_bits (Some p))) _ d.1),
       λ l. ltb→lt _ _ (rw (eqb-true p.nb_steps a g.0, eqb-true q.nb_steps b d.0, lt-ltb a b l) at more),
     )
 
 -- a class's steps cost its sample bits
-bits_of : (n : ℕ) (q : QuantClass) → class_of n ≡ some q → sample_bits n ≡ frame_bits (some q)
+bits_of : (n : ℕ) (q : QuantClass) → class_of n ≡ Some q → sample_bits n ≡ frame_bits (Some q)
 unfolding sample_bits
 bits_of n q e = ap frame_bits e
 

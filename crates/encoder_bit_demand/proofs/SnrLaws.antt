@@ -1,16 +1,16 @@
 -- Table C.5: its rule, by one test that antt computes over the table, and the row of a number of steps.
+use Rattle.std.proofs.lemmas.Option.{none-some, same_Some}
+use Rattle.std.specs.Prelude.{Option, None, Some, option_map, slice_get}
 use mathlib.Core.Path.{◌≡◌, refl, sym, ap, ◌∙◌, subst, subst₂}
 use mathlib.Core.Bool.{Bool, false, not, ◌&&◌, ◌||◌}
 use mathlib.Core.Logic.{⊎_elim}
 use mathlib.Core.List.{List, [], ◌∷◌, map}
-use mathlib.Core.Option
-use mathlib.Core.Option.{Option, none, some, none-ne-some, some-injective}
 use Prim.Native.Nat.{ℕ, zero, suc, ◌-◌, ◌≤◌, ◌<◌}
 use native.Mathlib.Nat.{eq-or-lt_of_le}
 use native.Mathlib.Omega.{arith}
 use types.Run.{OneOf}
 use lib.Count.{count_leading_zeros}
-use lib.ListN.{get_or, get_elem?}
+use lib.ListN.{get_or}
 use lib.Dec.{T, ltb, eqb}
 use lib.Ieee.{Float, nan, inf, fin, lt, le, is_nan}
 use lib.Ieee.Scale.{finite}
@@ -24,12 +24,12 @@ use Rattle.ieee_order.proofs.Order.{finite_number, float_lt_le, float_refl}
 use Rattle.encoder_bit_demand.specs.Snr.{SnrRow, table_c5, decibels, row_number, or_past, snr_of}
 
 -- what a found ratio was found in
-of_row : (o : Option SnrRow) (x : Float) → Option.map (λ r. r.db) o ≡ some x → (r : SnrRow) × (o ≡ some r) × (r.db ≡ x)
-of_row none x e = absurd (none-ne-some x e)
-of_row (some r) x e = (r, refl, some-injective _ _ e)
+of_row : (o : Option SnrRow) (x : Float) → option_map (λ r. r.db) o ≡ Some x → (r : SnrRow) × (o ≡ Some r) × (r.db ≡ x)
+of_row None x e = absurd (none-some x e)
+of_row (Some r) x e = (r, refl, same_Some _ _ e)
 
 -- what a test says of every row it says of the row of the steps
-row_of : (p : SnrRow → Bool) (steps : ℕ) (x : Float) → T (all p table_c5) → snr_of steps ≡ some x → T (p (record { steps = steps; db = x }))
+row_of : (p : SnrRow → Bool) (steps : ℕ) (x : Float) → T (all p table_c5) → snr_of steps ≡ Some x → T (p (record { steps = steps; db = x }))
 unfolding snr_of
 row_of p steps x t e =
     let r = of_row (find (λ r. eqb r.steps steps) table_c5) x e in
@@ -45,7 +45,7 @@ computed : T (all (λ p. all (ruled p) table_c5) table_c5)
 unfolding ruled table_c5 le lt
 computed = tt
 
-rule_of : (a b : ℕ) (x y : Float) → snr_of a ≡ some x → snr_of b ≡ some y → T (ruled (record { steps = a; db = x }) (record { steps = b; db = y }))
+rule_of : (a b : ℕ) (x y : Float) → snr_of a ≡ Some x → snr_of b ≡ Some y → T (ruled (record { steps = a; db = x }) (record { steps = b; db = y }))
 rule_of a b x y e f = row_of (ruled (record { steps = a; db = x })) b y (row_of (λ p. all (ruled p) table_c5) a x computed e) f
 
 pub record SnrRule (x : Float) : Type 0 where
@@ -53,7 +53,7 @@ pub record SnrRule (x : Float) : Type 0 where
   pub finite : T (finite x)
   pub least : T (le (fin false 0 (pos 0)) x)
 
-pub snr_rule : (steps : ℕ) (x : Float) → snr_of steps ≡ some x → SnrRule x
+pub snr_rule : (steps : ℕ) (x : Float) → snr_of steps ≡ Some x → SnrRule x
 unfolding ruled
 snr_rule steps x e =
     let t = rule_of steps steps x x e e in
@@ -63,16 +63,16 @@ snr_rule steps x e =
       least = first (le (fin false 0 (pos 0)) x) _ (second (finite x) _ t);
     }
 
-pub snr_rises : (a b : ℕ) (x y : Float) → snr_of a ≡ some x → snr_of b ≡ some y → a < b → T (lt x y)
+pub snr_rises : (a b : ℕ) (x y : Float) → snr_of a ≡ Some x → snr_of b ≡ Some y → a < b → T (lt x y)
 unfolding ruled
 snr_rises a b x y e f h =
     let t = second (le (fin false 0 (pos 0)) x) _ (second (finite x) _ (rule_of a b x y e f)) in
     rw (lt-ltb a b h) at t
 
-pub snr_le : (a b : ℕ) (x y : Float) → snr_of a ≡ some x → snr_of b ≡ some y → a ≤ b → T (le x y)
+pub snr_le : (a b : ℕ) (x y : Float) → snr_of a ≡ Some x → snr_of b ≡ Some y → a ≤ b → T (le x y)
 snr_le a b x y e f h =
     ⊎_elim
-    (λ s. subst (λ (y : Float). T (le x y)) (some-injective x y (sym e ∙ ap snr_of s ∙ f)) (float_refl x (snr_rule a x e).number))
+    (λ s. subst (λ (y : Float). T (le x y)) (same_Some x y (sym e ∙ ap snr_of s ∙ f)) (float_refl x (snr_rule a x e).number))
     (λ l. float_lt_le x y (snr_rises a b x y e f l))
     (eq-or-lt_of_le h)
 
@@ -116,26 +116,26 @@ computed_rows = (refl, (refl, (refl, (refl, (refl, (refl, (refl, (refl, (refl, (
 pub long_row : (steps : ℕ) → OneOf long_keys steps → 33 - count_leading_zeros 32 steps ≡ or_past (row_number steps)
 long_row steps h = at_key (λ n. 33 - count_leading_zeros 32 n ≡ or_past (row_number n)) long_keys steps computed_rows h
 
-column_at : (f : SnrRow → Float) (rs : List SnrRow) (i : ℕ) → Option.map f (get_elem? rs i) ≡ get_elem? (map f rs) i
+column_at : (f : SnrRow → Float) (rs : List SnrRow) (i : ℕ) → option_map f (slice_get rs i) ≡ slice_get (map f rs) i
 column_at f [] i = refl
 column_at f (r ∷ rs) zero = refl
 column_at f (r ∷ rs) (suc i) = column_at f rs i
 
 module _ (steps row : ℕ) (at : row ≡ or_past (row_number steps)) where
-  pub snr_there : (table : List Float) → row < 18 → table ≡ decibels → some (get_or table row nan) ≡ snr_of steps
+  pub snr_there : (table : List Float) → row < 18 → table ≡ decibels → Some (get_or table row nan) ≡ snr_of steps
   unfolding row_number snr_of decibels
   snr_there table h e = go (row_number steps) refl
     where
-      go : (o : Option ℕ) → row_number steps ≡ o → some (get_or table row nan) ≡ snr_of steps
-      go none p = let z = at ∙ ap or_past p in absurd (omega arith)
-      go (some i) p =
+      go : (o : Option ℕ) → row_number steps ≡ o → Some (get_or table row nan) ≡ snr_of steps
+      go None p = let z = at ∙ ap or_past p in absurd (omega arith)
+      go (Some i) p =
           let z : row ≡ i = at ∙ ap or_past p in
           rw (e, z, p) (sym (column_at (λ r. r.db) table_c5 i ∙ there decibels i nan (omega arith)))
 
-  pub snr_missing : 18 ≤ row → none ≡ snr_of steps
+  pub snr_missing : 18 ≤ row → None ≡ snr_of steps
   unfolding row_number snr_of
   snr_missing h = go (row_number steps) refl
     where
-      go : (o : Option ℕ) → row_number steps ≡ o → none ≡ snr_of steps
-      go none p = rw p
-      go (some i) p = let z : row ≡ i = at ∙ ap or_past p in rw (p, past table_c5 i (omega arith))
+      go : (o : Option ℕ) → row_number steps ≡ o → None ≡ snr_of steps
+      go None p = rw p
+      go (Some i) p = let z : row ≡ i = at ∙ ap or_past p in rw (p, past table_c5 i (omega arith))

@@ -1,7 +1,6 @@
 -- The demand: the data bits with which every field has a mask-to-noise ratio of at least 0, or stands at its top place (ISO/IEC 11172-3
 -- Annex G.1, required bit rate).
-use Rattle.std.specs.Prelude.{ℕ, ◌+◌, ◌-◌, ◌*◌, ◌≤◌, ◌≡◌, false, cond, List, [], ◌∷◌, map, eqb, Float, pos, length, get_or, drop}
-use Rattle.std.proofs.Math.Option.{Option, none, some}
+use Rattle.std.specs.Prelude.{ℕ, ◌+◌, ◌-◌, ◌*◌, ◌≤◌, ◌≡◌, false, cond, List, [], ◌∷◌, map, eqb, Float, pos, length, get_or, drop, Option, None, Some, Result, Ok, Err}
 use Rattle.std.specs.Float.{nan, fin}
 use Rattle.std.specs.Float.Ieee.{le}
 use Rattle.ieee_order.specs.Order.{max_of}
@@ -13,9 +12,8 @@ use Rattle.tables.specs.Search.{find}
 use Rattle.layout.specs.declared.Layout.{Layout}
 use Rattle.layout.specs.declared.AllocationField.{AllocationField}
 use Rattle.layout.specs.Layout.{served, fields_of, sum_over}
-use Rattle.encoder_bit_demand.specs.declared.DemandBits.{DemandBits}
-use Rattle.encoder_bit_demand.specs.declared.DemandBits.TheVariants.{Bits, Refused}
 use Rattle.encoder_bit_demand.specs.Snr.{snr}
+use Rattle.encoder_bit_budget.specs.declared.BitAllocError.{BitAllocError}
 use Rattle.encoder_bit_budget.specs.Budget.{BudgetAnswer, plain, error_number, budget_of, layout_in}
 
 -- The signal-to-mask ratios are two rows of 32, in dB; a slot's is at its channel and subband.
@@ -38,8 +36,8 @@ largest_smr (r ∷ s ∷ rs) = max_of r (largest_smr (s ∷ rs))
 
 -- the steps that a ratio needs: the first place of the row above 0 whose SNR is at least the ratio, or the top place
 abbrev pub or_top : List ℕ → Option ℕ → ℕ
-or_top row none = get_or row (length row - 1) 0
-or_top row (some n) = n
+or_top row None = get_or row (length row - 1) 0
+or_top row (Some n) = n
 
 unfoldable pub needed_steps : List ℕ → Float → ℕ
 needed_steps row r = or_top row (find (λ n. le r (snr n)) (drop 1 row))
@@ -62,10 +60,10 @@ pub record Demanded : Type 0 where
   pub answer : ℕ
   pub bits : ℕ
 
--- what each case of the enum stands for
-abbrev pub demand_in : DemandBits → Demanded
-demand_in (Bits n) = record { answer = 0; bits = n }
-demand_in (Refused e) = record { answer = error_number e; bits = 0 }
+-- what the answer stands for
+abbrev pub demand_in : Result ℕ BitAllocError → Demanded
+demand_in (Ok n) = record { answer = 0; bits = n }
+demand_in (Err e) = record { answer = error_number e; bits = 0 }
 
 -- from the budget's answer
 abbrev pub demand_by : List (List Float) → BudgetAnswer → Demanded
@@ -78,7 +76,7 @@ demand_of h smr = demand_by smr (budget_of (plain h 0))
 -- ---- what the functions promise
 
 -- besides the whole answer a bound: 60 fields at most, of 576 bits of samples and 40 for the first step
-pub record DemandIs (h : FrameHeader) (smr : List (List Float)) (r : DemandBits) : Type 0 where
+pub record DemandIs (h : FrameHeader) (smr : List (List Float)) (r : Result ℕ BitAllocError) : Type 0 where
   pub whole : demand_in r ≡ demand_of h smr
   pub small : (demand_in r).bits ≤ 60 * 616
 

@@ -4,13 +4,7 @@ use Rattle.std.specs.Prelude.{ℕ, ◌+◌, ◌*◌, ◌≤◌, ◌≡◌, List,
 use Rattle.bitalloc.specs.declared.BitAllocTable.{BitAllocTable}
 use Rattle.layout.specs.declared.Layout.{Layout}
 use Rattle.layout.specs.declared.AllocationField.{AllocationField}
-use Rattle.encoder_bit_budget.specs.Budget.{BudgetAnswer}
-use Rattle.encoder_bit_demand.specs.declared.DemandBits.{DemandBits}
-use Rattle.encoder_bit_demand.specs.Demand.{needed_bits, field_demand, layout_demand, demand_in, demand_by}
-
-pub record DemandInIs (a : BudgetAnswer) (smr : List (List Float)) (r : DemandBits) : Type 0 where
-  pub whole : demand_in r ≡ demand_by smr a
-  pub small : (demand_in r).bits ≤ 60 * 616
+use Rattle.encoder_bit_demand.specs.Demand.{needed_bits, field_demand, layout_demand}
 
 pub record NeededIs (row : List ℕ) (smr : Float) (first r : ℕ) : Type 0 where
   pub whole : r ≡ needed_bits row smr first

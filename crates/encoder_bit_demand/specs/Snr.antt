@@ -1,12 +1,8 @@
 -- Signal-to-noise ratios: Table C.5 of ISO/IEC 11172-3, "Layer II Signal-to-Noise Ratios".
-use Rattle.std.specs.Prelude.{ℕ, List, [], ◌∷◌, map, eqb, Float}
-use Rattle.std.proofs.Math.Option
-use Rattle.std.proofs.Math.Option.{Option, none, some}
+use Rattle.std.specs.Prelude.{ℕ, List, [], ◌∷◌, map, eqb, Float, Option, None, Some, option_map}
 use Rattle.std.specs.Float.{nan}
 use Rattle.tables.specs.Decimal.{decimal}
 use Rattle.tables.specs.Search.{place, find}
-use Rattle.encoder_bit_demand.specs.declared.OptionF64.{OptionF64}
-use Rattle.encoder_bit_demand.specs.declared.OptionF64.TheVariants.{Some, None}
 
 -- a row of the table: a number of steps, and the ratio in dB, which has two decimal places; no steps is 0 dB
 pub record SnrRow : Type 0 where
@@ -52,23 +48,18 @@ row_number steps = place (λ r. eqb r.steps steps) table_c5
 
 -- what the code has for no row: the number past the last
 abbrev pub or_past : Option ℕ → ℕ
-or_past none = 18
-or_past (some i) = i
+or_past None = 18
+or_past (Some i) = i
 
 -- the ratio of a number of steps
 unfoldable pub snr_of : ℕ → Option Float
 unfolding table_c5
-snr_of steps = Option.map (λ r. r.db) (find (λ r. eqb r.steps steps) table_c5)
+snr_of steps = option_map (λ r. r.db) (find (λ r. eqb r.steps steps) table_c5)
 
 -- the same where the steps are known to be the table's; a row's are
 abbrev pub or_nan : Option Float → Float
-or_nan none = nan
-or_nan (some x) = x
+or_nan None = nan
+or_nan (Some x) = x
 
 abbrev pub snr : ℕ → Float
 snr steps = or_nan (snr_of steps)
-
--- what `snr_db` answers stands for
-abbrev pub snr_in : OptionF64 → Option Float
-snr_in (Some x) = some x
-snr_in None = none

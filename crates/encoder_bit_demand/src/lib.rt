@@ -2,37 +2,29 @@
 // ISO/IEC 11172-3 Annex G.1.
 #![tactic(auto)]
 
-ghost use Rattle.std.specs.Prelude.{◌≡◌, ◌≤◌, ◌<◌, length, take};
+ghost use Rattle.std.specs.Prelude.{◌≡◌, ◌≤◌, ◌<◌, length};
 ghost use Rattle.std.specs.Float.Ieee.{le};
 ghost use Rattle.bitalloc.specs.Tables.{sblimit_of};
-ghost use Rattle.encoder_bit_budget.specs.Budget.{budget_in};
-ghost use Rattle.encoder_bit_demand.specs.Snr.{decibels, row_number, or_past, snr_of, snr, snr_in};
-ghost use Rattle.encoder_bit_demand.specs.Demand.{smrs_of, largest_smr, needed_steps, demand_in, FirstStepIs, DemandIs};
-ghost use Rattle.encoder_bit_demand.specs.OnTheWay.{NeededIs, FieldDemandIs, LayoutDemandIs, DemandInIs};
+ghost use Rattle.encoder_bit_demand.specs.Snr.{decibels, row_number, or_past, snr_of, snr};
+ghost use Rattle.encoder_bit_demand.specs.Demand.{smrs_of, largest_smr, needed_steps, FirstStepIs, DemandIs};
+ghost use Rattle.encoder_bit_demand.specs.OnTheWay.{NeededIs, FieldDemandIs, LayoutDemandIs};
 
 use bitalloc::BitAllocTable;
-use encoder_bit_budget::{BitAllocError, Budget, FixedBitBudget};
+use encoder_bit_budget::{BitAllocError, FixedBitBudget};
 use header::FrameHeader;
 use layout::{AllocationField, Layout};
 
-// A number, or nothing.
-#[derive(Clone, Copy)]
-pub enum OptionF64 {
-    Some(f64),
-    None,
-}
-
 // Table C.5: the signal-to-noise ratios in dB, by rising number of steps.
-const SNR_DB: [f64; 18] = [
+static SNR_DB: [f64; 18] = [
     0.00, 7.00, 11.00, 16.00, 20.84, 25.28, 31.59, 37.75, 43.84, 49.89, 55.93, 61.96, 67.98, 74.01,
     80.03, 86.05, 92.01, 98.01,
 ];
 
-// The whole table. Reading a constant table rebuilds it, so a caller that reads many entries takes it once.
-fn snr_table() -> [f64; 18]
-    ensures { result ≡ decibels }
+// The whole table.
+fn snr_table() -> &'static [f64; 18]
+    ensures { result.now ≡ decibels }
 {
-    SNR_DB
+    &SNR_DB
 }
 
 // The row of the table that has a number of steps; 18, past the last, where none has.
@@ -53,71 +45,24 @@ fn snr_row(nb_steps: u32) -> usize
 }
 
 // The signal-to-noise ratio in dB of a number of steps; no steps have 0 dB.
-pub fn snr_db(nb_steps: u32) -> OptionF64
-    ensures { snr_in result ≡ snr_of nb_steps }
-{
-    let table = snr_table();
-    snr_in(&table, nb_steps)
-}
-
-// The same in the table that is lent.
-fn snr_in(table: &[f64; 18], nb_steps: u32) -> OptionF64
-    requires { table.now ≡ decibels }
-    ensures { snr_in result ≡ snr_of nb_steps }
+pub fn snr_db(nb_steps: u32) -> Option<f64>
+    ensures { result ≡ snr_of nb_steps }
 {
     let row = snr_row(nb_steps);
     if row < 18 {
-        OptionF64::Some(table[row])
+        Some(snr_table()[row])
     } else {
-        OptionF64::None
-    }
-}
-
-// What `demand_bits` answers: the bits, or the header's refusal.
-#[derive(Clone, Copy)]
-pub enum DemandBits {
-    Bits(u64),
-    Refused(BitAllocError),
-}
-
-impl DemandBits {
-    // The answer's number: 0 where the header is accepted.
-    pub fn refusal(self) -> u32
-        ensures { result ≡ (demand_in self).answer }
-    {
-        match self {
-            DemandBits::Bits(_) => 0,
-            DemandBits::Refused(error) => error.number(),
-        }
-    }
-
-    // The bits; 0 where the header is refused.
-    pub fn bits(self) -> u64
-        ensures { result ≡ (demand_in self).bits }
-    {
-        match self {
-            DemandBits::Bits(bits) => bits,
-            DemandBits::Refused(_) => 0,
-        }
+        None
     }
 }
 
 // The data bits with which every allocation field has a mask-to-noise ratio of at least 0 dB or stands at its top place (Annex G.1, required
 // bit rate).
-pub fn demand_bits(header: FrameHeader, smr_db: [[f64; 32]; 2]) -> DemandBits
+pub fn demand_bits(header: FrameHeader, smr_db: [[f64; 32]; 2]) -> Result<u64, BitAllocError>
     ensures { DemandIs header smr_db result }
 {
-    demand_in(encoder_bit_budget::fixed_bit_budget(header), &smr_db)
-}
-
-// What is demanded under a budget.
-fn demand_in(budget: Budget, smr_db: &[[f64; 32]; 2]) -> DemandBits
-    ensures { DemandInIs (budget_in budget) smr_db.now result }
-{
-    match budget {
-        Budget::Ok(b) => DemandBits::Bits(layout_demand(b.layout(), smr_db)),
-        Budget::Refused(error) => DemandBits::Refused(error),
-    }
+    let budget = encoder_bit_budget::fixed_bit_budget(header)?;
+    Ok(layout_demand(budget.layout(), &smr_db))
 }
 
 // The demand of all fields of a layout.
@@ -127,11 +72,9 @@ fn layout_demand(layout: Layout, smr_db: &[[f64; 32]; 2]) -> u64
     let table = layout.table;
     let fields = layout.fields();
     let mut bits: u64 = 0;
-    let mut f: usize = 0;
-    while f < fields {
+    for f in 0..fields {
         let field = layout.field(f);
-        bits = bits + field_demand(table, field, smr_db);
-        f = f + 1;
+        bits += field_demand(table, field, smr_db);
     }
     bits
 }
@@ -144,7 +87,7 @@ fn field_demand(table: BitAllocTable, field: AllocationField, smr_db: &[[f64; 32
     let row = table.row(field.subband);
     let places = table.places(field.subband);
     let smr = field_smr(field, smr_db);
-    needed_bits(&row, places, smr, first_step_bits(field))
+    needed_bits(&row[..places], smr, first_step_bits(field))
 }
 
 // The larger of the ratios of the channels that a field serves.
@@ -173,42 +116,36 @@ pub fn first_step_bits(field: AllocationField) -> u32
 }
 
 // The demand of a field at a ratio; a ratio of at most 0 dB needs nothing.
-fn needed_bits(row: &[u32; 16], places: usize, smr: f64, first_step: u32) -> u64
-    requires { (1 ≤ places) × (places ≤ 16) × (length row.now ≡ 16) × (first_step ≤ 40) }
-    ensures { NeededIs (take places row.now) smr first_step result }
+fn needed_bits(row: &[u32], smr: f64, first_step: u32) -> u64
+    requires { (2 ≤ length row.now) × (first_step ≤ 40) }
+    ensures { NeededIs row.now smr first_step result }
 {
     if smr <= 0.0 {
         return 0;
     }
-    let steps = needed_steps(row, places, smr);
-    (quantization::sample_bits_for(steps) + first_step) as u64
+    let steps = needed_steps(row, smr);
+    u64::from(quantization::sample_bits_for(steps) + first_step)
 }
 
 // The steps at the first place above 0 whose signal-to-noise ratio reaches `smr`, or at the top place.
-fn needed_steps(row: &[u32; 16], places: usize, smr: f64) -> u32
-    requires { (1 ≤ places) × (places ≤ 16) × (length row.now ≡ 16) }
-    ensures { result ≡ needed_steps (take places row.now) smr }
+fn needed_steps(row: &[u32], smr: f64) -> u32
+    requires { 2 ≤ length row.now }
+    ensures { result ≡ needed_steps row.now smr }
 {
-    let table = snr_table();
-    let top = places - 1;
-    let mut at: usize = 1;
-    while at < top {
-        let steps = row[at];
-        if reaches(&table, steps, smr) {
-            return steps;
+    let top = row.len() - 1;
+    for steps in &row[1..top] {
+        if reaches(*steps, smr) {
+            return *steps;
         }
-        at = at + 1;
     }
     row[top]
 }
 
-// Whether the signal-to-noise ratio of a number of steps, in the table that is lent, is at least `smr`.
-fn reaches(table: &[f64; 18], steps: u32, smr: f64) -> bool
-    requires { table.now ≡ decibels }
+// Whether the signal-to-noise ratio of a number of steps is at least `smr`.
+fn reaches(steps: u32, smr: f64) -> bool
     ensures { result ≡ le smr (snr steps) }
 {
-    let found = snr_in(table, steps);
-    let OptionF64::Some(snr) = found else {
+    let Some(snr) = snr_db(steps) else {
         return false;
     };
     smr <= snr

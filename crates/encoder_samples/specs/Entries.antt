@@ -1,15 +1,10 @@
 -- The answers of the entries that take a number of steps: the code or the triplet of its class, or a refusal where there is no class.
-use Rattle.std.specs.Prelude.{◌≡◌, ℕ, ◌^◌, ◌<◌, ◌≤◌, cond, List, [], ◌∷◌, ◌==◌, slice_index, Float}
-use Rattle.std.proofs.Math.Option.{Option, none, some}
+use Rattle.std.specs.Prelude.{◌≡◌, ℕ, ◌^◌, ◌<◌, ◌≤◌, cond, List, [], ◌∷◌, ◌==◌, slice_index, Float, Option, None, Some, is_some}
 use Rattle.header.specs.Questions.{Question, number}
 use Rattle.header.specs.Header.{where_accepted}
 use Rattle.quantization.specs.declared.QuantClass.{QuantClass}
-use Rattle.bitalloc.specs.Options.{is_some}
 use Rattle.quantization.specs.Classes.{class_of}
-use Rattle.encoder_samples.specs.declared.SampleCode.{SampleCode}
-use Rattle.encoder_samples.specs.declared.SampleCode.TheVariants.{Code, NoClass}
 use Rattle.encoder_samples.specs.declared.Triplet.{Triplet}
-use Rattle.encoder_samples.specs.declared.TripletAnswer.{TripletAnswer}
 use Rattle.encoder_samples.specs.Samples.{quantized, triplet}
 
 -- question 5: the number of steps is that of a class
@@ -23,15 +18,15 @@ pub record Coded : Type 0 where
   pub answer : ℕ
   pub code : ℕ
 
--- what each case of the enum stands for
-abbrev pub coded_of : SampleCode → Coded
-coded_of (Code n) = record { answer = 0; code = n }
-coded_of NoClass = record { answer = 5; code = 0 }
+-- what the answer stands for
+abbrev pub coded_of : Option ℕ → Coded
+coded_of (Some n) = record { answer = 0; code = n }
+coded_of None = record { answer = 5; code = 0 }
 
 -- the code in a class that is found
 abbrev pub code_in : Option QuantClass → Float → ℕ
-code_in none sample = 0
-code_in (some q) sample = quantized q sample
+code_in None sample = 0
+code_in (Some q) sample = quantized q sample
 
 -- the whole answer for a number of steps and a sample
 unfoldable pub sample_code : ℕ → Float → Coded
@@ -45,10 +40,20 @@ sample_code steps sample =
 abbrev pub no_triplet : Triplet
 no_triplet = record { count = 0; width = 0; codewords = 0 ∷ 0 ∷ 0 ∷ [] }
 
+-- an answer's number, and the triplet
+pub record TripletAnswer : Type 0 where
+  pub number : ℕ
+  pub triplet : Triplet
+
+-- what the answer stands for
+abbrev pub tripled_of : Option Triplet → TripletAnswer
+tripled_of (Some t) = record { number = 0; triplet = t }
+tripled_of None = record { number = 5; triplet = no_triplet }
+
 -- the triplet in a class that is found
 abbrev pub triplet_in : Option QuantClass → List Float → Triplet
-triplet_in none samples = no_triplet
-triplet_in (some q) samples = triplet q samples
+triplet_in None samples = no_triplet
+triplet_in (Some q) samples = triplet q samples
 
 -- the whole answer for a number of steps and three samples
 unfoldable pub triplet_answer : ℕ → List Float → TripletAnswer
@@ -58,13 +63,13 @@ triplet_answer steps samples =
 
 -- ---- what the functions promise
 
-pub record SampleCodeIs (steps : ℕ) (sample : Float) (r : SampleCode) : Type 0 where
+pub record SampleCodeIs (steps : ℕ) (sample : Float) (r : Option ℕ) : Type 0 where
   pub whole : coded_of r ≡ sample_code steps sample
   pub small : (coded_of r).code < 2 ^ 16
 
 -- the whole answer, and what a writer of codewords counts on: at most 3 of them, of at most 16 bits, and each is held by its bits
-pub record TripletIs (steps : ℕ) (samples : List Float) (r : TripletAnswer) : Type 0 where
-  pub whole : r ≡ triplet_answer steps samples
-  pub few : r.triplet.count ≤ 3
-  pub narrow : r.triplet.width ≤ 16
-  pub below : (i : ℕ) → slice_index r.triplet.codewords i < 2 ^ r.triplet.width
+pub record TripletIs (steps : ℕ) (samples : List Float) (r : Option Triplet) : Type 0 where
+  pub whole : tripled_of r ≡ triplet_answer steps samples
+  pub few : (tripled_of r).triplet.count ≤ 3
+  pub narrow : (tripled_of r).triplet.width ≤ 16
+  pub below : (i : ℕ) → slice_index (tripled_of r).triplet.codewords i < 2 ^ (tripled_of r).triplet.width

@@ -7,7 +7,7 @@ ghost use Rattle.encoder_samples.specs.Samples.{clamped, code_to, last_code, qua
 ghost use Rattle.encoder_samples.specs.Entries.{SampleCodeIs, TripletIs};
 ghost use Rattle.encoder_samples.specs.Half.{HalfIs};
 
-use quantization::{OptionClass, QuantClass};
+use quantization::QuantClass;
 
 // The code of a sample, given as s'' (divided by its scalefactor), in a class of quantization.
 pub fn quantize_sample(class: QuantClass, s_double_prime: f64) -> u32
@@ -22,24 +22,17 @@ fn half_range(class: QuantClass) -> u32
     ensures { HalfIs class.nb_steps result }
 {
     let n = class.bits_per_sample();
-    if n == 0 { 1 } else { 1 << (n - 1) }
+    1 << n.saturating_sub(1)
 }
 
 // A grouped class has a code for each step, any other as many as its bits allow.
 fn last_code(class: QuantClass) -> u32
     ensures { result ≡ last_code class }
 {
-    let step = last_step(class.nb_steps);
+    let step = class.nb_steps.saturating_sub(1);
     let half = half_range(class);
     let all_ones = half - 1 + half;
     if class.grouping { step } else { all_ones }
-}
-
-// The last of the steps, counted from 0.
-fn last_step(nb_steps: u32) -> u32
-    ensures { result ≡ nb_steps - 1 }
-{
-    if nb_steps == 0 { 0 } else { nb_steps - 1 }
 }
 
 // The code of a sample where the codes end at `last`.
@@ -90,11 +83,7 @@ pub fn nearest_whole(x: f64) -> u64
 fn capped(code: u64, last: u32) -> u32
     ensures { result ≡ min code last }
 {
-    if code < last as u64 {
-        code as u32
-    } else {
-        last
-    }
+    code.min(u64::from(last)) as u32
 }
 
 // Three samples' codewords: how many, the bits of each, and the codewords, with 0 in the places that are not used.
@@ -141,48 +130,21 @@ fn group_combined(nb_steps: u32, first: u32, second: u32, third: u32) -> u32
 fn next_digit(upper: u32, nb_steps: u32, digit: u32) -> u32
     ensures { result ≡ (upper * nb_steps + digit) % 2 ^ 32 }
 {
-    let number = (upper as u64) * (nb_steps as u64) + (digit as u64);
-    (number % 4_294_967_296) as u32
+    upper.wrapping_mul(nb_steps).wrapping_add(digit)
 }
 
-// What `quantize_sample_for` answers.
-#[derive(Clone, Copy)]
-pub enum SampleCode {
-    Code(u32),
-    NoClass,
-}
-
-// The code of a sample in the class of a step count.
-pub fn quantize_sample_for(nb_steps: u32, s_double_prime: f64) -> SampleCode
+// The code of a sample in the class of a step count; none where there is no such class.
+pub fn quantize_sample_for(nb_steps: u32, s_double_prime: f64) -> Option<u32>
     ensures { SampleCodeIs nb_steps s_double_prime result }
 {
-    let found = quantization::class_of_quantization(nb_steps);
-    let OptionClass::Some(class) = found else {
-        return SampleCode::NoClass;
-    };
-    SampleCode::Code(quantize_sample(class, s_double_prime))
+    let class = quantization::class_of_quantization(nb_steps)?;
+    Some(quantize_sample(class, s_double_prime))
 }
 
-// What `write_triplet_for` answers: 0 and the triplet, or 5 and zeros.
-#[derive(Clone, Copy)]
-pub struct TripletAnswer {
-    pub number: u32,
-    pub triplet: Triplet,
-}
-
-// The codewords of three consecutive samples in the class of a step count.
-pub fn write_triplet_for(nb_steps: u32, s_double_primes: [f64; 3]) -> TripletAnswer
+// The codewords of three consecutive samples in the class of a step count; none where there is no such class.
+pub fn write_triplet_for(nb_steps: u32, s_double_primes: [f64; 3]) -> Option<Triplet>
     ensures { TripletIs nb_steps s_double_primes result }
 {
-    let found = quantization::class_of_quantization(nb_steps);
-    let OptionClass::Some(class) = found else {
-        let triplet = Triplet {
-            count: 0,
-            width: 0,
-            codewords: [0, 0, 0],
-        };
-        return TripletAnswer { number: 5, triplet };
-    };
-    let triplet = write_triplet(class, s_double_primes);
-    TripletAnswer { number: 0, triplet }
+    let found = quantization::class_of_quantization(nb_steps)?;
+    Some(write_triplet(found, s_double_primes))
 }

@@ -1,20 +1,24 @@
--- The search for the last multiplier that covers, as the code makes it by halves; and what the index of a granule is worth.
+-- The search for the last multiplier that covers; and what the index of a granule is worth.
 use mathlib.Core.Path.{◌≡◌, refl, sym, ap, ap₂, ◌∙◌, subst}
-use mathlib.Core.Bool.{Bool, true, false, true≢false}
+use mathlib.Core.Bool.{Bool, true, false}
 use mathlib.Core.Logic.{◌⊎◌, inl, inr, ⊎_elim}
-use mathlib.Core.List.{List, [], ◌∷◌}
-use Prim.Native.Nat.{ℕ, zero, suc, ◌+◌, ◌*◌, ◌≤◌, ◌<◌}
-use native.Mathlib.Nat.{le_of_suc-le-suc, not-suc-le-zero, eq-or-lt_of_le, le_trans, le-suc, lt-suc_self, zero-lt-suc}
+use mathlib.Core.List.{List, []}
+use Prim.Native.Nat.{ℕ, zero, suc, ◌+◌, ◌-◌, ◌*◌, ◌≤◌, ◌<◌}
+use native.Mathlib.Nat.{le_of_suc-le-suc, not-suc-le-zero, eq-or-lt_of_le, le_trans, le-suc, lt-suc_self, le_of_lt}
 use native.Mathlib.Numerals.{add-one}
 use native.Mathlib.Omega.{arith}
 use lib.Dec.{T, lit<}
 use lib.IntN.{pos}
 use lib.Ieee.{Float, nan, fin, le, lt, is_nan}
-use lib.ListN.{length, get_or}
+use lib.Ieee.Bits.{is_true}
+use Rattle.std.proofs.Common.{zero-le}
+use Rattle.std.specs.List.Sorted.{IsPartitionedBy, IsPartitionPoint}
+use Rattle.std.proofs.lemmas.List.{get_or_default, get_or-take, get_or-drop, length-take, length-drop}
+use Rattle.std.specs.List.{slice_range}
+use lib.ListN.{length, get_or, drop}
 use Rattle.tables.specs.Search.{last_place}
 use Rattle.tables.specs.Scalefactors.{scalefactors}
 use borrow.Author.Tests.{lt-ltb, le-ltb}
-use Rattle.tables.proofs.Listed.{listed}
 use Rattle.tables.proofs.Rule.{all_below, below}
 use Rattle.tables.proofs.Search.{last_found, last_missing, last_told, Told}
 use Rattle.ieee_order.specs.Order.{abs_of, max_of}
@@ -22,50 +26,37 @@ use Rattle.tables.proofs.Descent.{descends}
 use Rattle.ieee_order.proofs.Order.{float_trans, float_lt_le, float_not_le, float_clash, le_numbers}
 use Rattle.ieee_order.proofs.Extremes.{max_keeps, max_picks, max_and_nan, max_number, le_max_first, le_max_second}
 use Rattle.ieee_order.proofs.Magnitude.{abs_nan}
-use Rattle.encoder_scalefactors.specs.Indices.{covers, multiplier, pick_of, or_first, largest, index_from, index_at, granule_of, indices_of, PickIs, ScalefactorIndexIs, Covering}
+use Rattle.encoder_scalefactors.specs.Indices.{covers, multiplier, pick_of, or_first, largest, index_from, index_at, PickIs, ScalefactorIndexIs, Covering}
 
 count : length scalefactors ≡ 63
 unfolding scalefactors
 count = refl
 
--- ---- the search by halves
+-- ---- the search
 
--- what does not cover has no larger one behind it
-pub not_behind : (x : Float) (table : List Float) (i : ℕ) → table ≡ scalefactors → le x (get_or table i nan) ≡ false
-    → (k : ℕ) → i ≤ k → k < 63 → le x (get_or table k nan) ≡ false
-not_behind x table i e c k l h = ⊎_elim (λ q. subst (λ (j : ℕ). le x (get_or table j nan) ≡ false) q c) (λ m. go (le x (get_or table k nan)) refl m) (eq-or-lt_of_le l)
+-- the multipliers that cover stand first
+pub partitioned : (x : Float) → IsPartitionedBy (le x) scalefactors
+partitioned x i j d l h t =
+    ⊎_elim (λ e. subst (λ (k : ℕ). le x (get_or scalefactors k d) ≡ true) (sym e) t) (λ m. is_true _ (go m)) (eq-or-lt_of_le l)
   where
-    go : (b : Bool) → le x (get_or table k nan) ≡ b → i < k → b ≡ false
-    go false q m = refl
-    go true q m =
-        let d : T (lt (get_or table k nan) (get_or table i nan)) = rw e (descends i k m (rw count h)) in
-        absurd (subst T c (float_trans x (get_or table k nan) (get_or table i nan) (subst T (sym q) tt) (float_lt_le _ _ d)))
+    go : i < j → T (le x (get_or scalefactors i d))
+    go m =
+        let k : i < length scalefactors = le_trans m (le_of_lt h) in
+        let covered : T (le x (get_or scalefactors j nan)) = subst T (sym (ap (le x) (get_or_default scalefactors j nan d h) ∙ t)) tt in
+        subst (λ (v : Float). T (le x v)) (get_or_default scalefactors i nan d k)
+        (float_trans x (get_or scalefactors j nan) (get_or scalefactors i nan) covered (float_lt_le _ _ (descends i j m h)))
 
--- the two have met: `low` covers, or is the first, and nothing behind it covers
-pub pick_found : (x : Float) (table : List Float) (low high : ℕ) → table ≡ scalefactors → low < 63 → high ≤ low + 1
-    → (0 < low → le x (get_or table low nan) ≡ true) → ((k : ℕ) → high ≤ k → k < 63 → le x (get_or table k nan) ≡ false) → PickIs x low
+-- one less than the number of those that cover
+pub pick_found : (x : Float) (n : ℕ) → n ≤ length scalefactors → IsPartitionPoint (λ m. le x m ≡ true) (λ m. le x m ≡ false) scalefactors n → PickIs x (n - 1)
 unfolding pick_of
-pick_found x table low high e h m c b = go (le x (get_or table low nan)) refl
-  where
-    behind : (k : ℕ) → low < k → k < length scalefactors → le x (get_or scalefactors k nan) ≡ false
-    behind k g l =
-        let l' : k < 63 = rw count at l in
-        subst (λ (t : List Float). le x (get_or t k nan) ≡ false) e (b k (omega arith) l')
-
-    go : (v : Bool) → le x (get_or table low nan) ≡ v → PickIs x low
-    go true q = record {
-      whole = sym (ap or_first (last_found (covers x) scalefactors low nan (rw count h) behind (rw e at q)));
-      small = omega arith;
-    }
-    go false q = first low refl
-      where
-        first : (n : ℕ) → low ≡ n → PickIs x low
-        first (suc n) z = absurd (true≢false (sym (c (rw z (zero-lt-suc n))) ∙ q))
-        first zero z = record {
-          whole = z ∙ sym (ap or_first (last_missing (covers x) scalefactors nan (λ k l. let l' : k < 63 = rw count at l in
-              subst (λ (t : List Float). le x (get_or t k nan) ≡ false) e (not_behind x table low e q k (omega arith) l'))));
-          small = omega arith;
-        }
+pick_found x zero h p = record {
+  whole = sym (ap or_first (last_missing (covers x) scalefactors nan (λ k l. p.1 k nan zero-le l)));
+  small = omega arith;
+}
+pick_found x (suc i) h p = record {
+  whole = let e : suc i - 1 ≡ i = omega arith in e ∙ sym (ap or_first (last_found (covers x) scalefactors i nan h (λ k g l. p.1 k nan g l) (p.0 i nan zero-le (lt-suc_self i))));
+  small = let l = rw count at h in omega arith;
+}
 
 -- ---- what the index found for a magnitude says: where any multiplier covers it, the index's does; the next never does
 
@@ -89,11 +80,23 @@ pick_tight x h = go (last_told (covers x) scalefactors nan)
 
 -- ---- the largest magnitude
 
--- one sample more
-pub largest_more : (xs : List Float) (s k : ℕ) (m v r : Float) → m ≡ largest xs s k → v ≡ abs_of (get_or xs (s + k) nan) → r ≡ max_of m v
-    → r ≡ largest xs s (k + 1)
+-- the twelve samples of a granule
+granule_length : (xs : List Float) (s : ℕ) → s + 12 ≤ length xs → length (slice_range xs s (s + 12)) ≡ 12
+granule_length xs s h = rw (length-take, length-drop) (omega arith)
+
+pub within_granule : (xs : List Float) (s k : ℕ) → k < length (slice_range xs s (s + 12)) → k < 12
+within_granule xs s k l = let m = length-take (s + 12 - s) (drop s xs) in omega arith
+
+pub granule_end : (xs : List Float) (s k : ℕ) → s + 12 ≤ length xs → k ≤ length (slice_range xs s (s + 12)) → length (slice_range xs s (s + 12)) ≤ k → k ≡ 12
+granule_end xs s k h l m = let e = granule_length xs s h in omega arith
+
+-- one sample more, read from the granule
+pub largest_more : (xs : List Float) (s k : ℕ) (m v r : Float) → m ≡ largest xs s k → k < 12
+    → v ≡ abs_of (get_or (slice_range xs s (s + 12)) k nan) → r ≡ max_of m v → r ≡ largest xs s (k + 1)
 unfolding largest
-largest_more xs s k m v r e q p = rw (add-one k) (p ∙ ap₂ max_of e q)
+largest_more xs s k m v r e h q p =
+    let l : k < s + 12 - s = omega arith in
+    rw (add-one k) (p ∙ ap₂ max_of e (q ∙ ap abs_of (get_or-take (s + 12 - s) (drop s xs) k nan l ∙ get_or-drop s xs k nan)))
 
 -- it is a number
 largest_number : (xs : List Float) (s n : ℕ) → is_nan (largest xs s n) ≡ false
@@ -175,7 +178,7 @@ index_is xs s x r e p =
     let q : r ≡ index_from xs s = p.whole ∙ ap pick_of e in
     record { whole = q; most = p.small; worth = subst (Covering xs s) (sym q) (worth xs s) }
 
--- ---- a granule and a frame
+-- ---- one side of the limit and the other
 
 pub within : (xs : List (List Float)) (limit g sb r : ℕ) → sb < limit → r ≡ index_from (get_or xs sb []) (12 * g) → r ≡ index_at xs limit g sb
 unfolding index_at
@@ -184,13 +187,3 @@ within xs limit g sb r h e = rw (lt-ltb sb limit h) e
 pub beyond : (xs : List (List Float)) (limit g sb : ℕ) → limit ≤ sb → 62 ≡ index_at xs limit g sb
 unfolding index_at
 beyond xs limit g sb h = rw (le-ltb sb limit h)
-
-pub granule_filled : (xs : List (List Float)) (limit g : ℕ) (is : List ℕ) → length is ≡ 32
-    → ((k : ℕ) → k < 32 → get_or is k 0 ≡ index_at xs limit g k) → is ≡ granule_of xs limit g
-unfolding granule_of
-granule_filled xs limit g is e b = listed 32 (index_at xs limit g) 0 is e b
-
-pub frame_filled : (xs : List (List Float)) (limit : ℕ) (a b c : List ℕ) → a ≡ granule_of xs limit 0 → b ≡ granule_of xs limit 1
-    → c ≡ granule_of xs limit 2 → a ∷ b ∷ c ∷ [] ≡ indices_of xs limit
-unfolding indices_of
-frame_filled xs limit a b c p q r = rw (p, q, r)

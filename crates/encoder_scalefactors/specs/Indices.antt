@@ -1,7 +1,6 @@
 -- Scalefactor indices of a frame's subband samples: ISO/IEC 11172-3 C.1.5.2, calculation of scalefactors.
 -- The 36 samples of a subband in a frame make three granules of 12, and each granule has an index.
-use Rattle.std.specs.Prelude.{ℕ, zero, suc, ◌+◌, ◌*◌, ◌≤◌, ◌<◌, ◌≡◌, Bool, false, cond, List, [], T, ltb, pos, Float, get_or}
-use Rattle.std.proofs.Math.Option.{Option, none, some}
+use Rattle.std.specs.Prelude.{ℕ, zero, suc, ◌+◌, ◌*◌, ◌≤◌, ◌<◌, ◌≡◌, Bool, false, cond, List, [], T, ltb, pos, Float, get_or, Option, None, Some}
 use Rattle.std.specs.Float.{nan, fin}
 use Rattle.std.specs.Float.Ieee.{le, lt, is_nan}
 use Rattle.tables.specs.Listed.{tabulate}
@@ -19,8 +18,8 @@ multiplier i = get_or scalefactors i nan
 
 -- the last index whose multiplier covers the magnitude, and 0 where there is none
 abbrev pub or_first : Option ℕ → ℕ
-or_first none = 0
-or_first (some i) = i
+or_first None = 0
+or_first (Some i) = i
 
 unfoldable pub pick_of : Float → ℕ
 pick_of x = or_first (last_place (covers x) scalefactors)

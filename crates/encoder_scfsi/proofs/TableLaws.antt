@@ -1,9 +1,9 @@
 -- Where the row of two classes stands in Table C.4, and the rule of its rows, each by one test that antt computes over the table.
+use Rattle.std.specs.Prelude.{Option, None, Some}
 use Prim.Native.Nat.{ℕ, zero, suc, ◌+◌, ◌-◌, ◌*◌, ◌<◌}
 use mathlib.Core.Path.{◌≡◌, refl, sym, ap, ◌∙◌, subst}
 use mathlib.Core.Bool.{Bool, true, false, ◌&&◌}
 use mathlib.Core.List.{List, [], ◌∷◌, map}
-use mathlib.Core.Option.{Option, none, some}
 use native.Mathlib.Nat.{le_of_suc-le-suc, not-suc-le-zero}
 use native.Mathlib.Omega.{arith}
 use lib.Dec.{T, eqb, eqb→eq, lit<}
@@ -29,17 +29,17 @@ place_of c d = 5 * (c - 1) + (d - 1)
 
 -- what would stand past the end
 abbrev pub no_row : Row
-no_row = record { class1 = 0; class2 = 0; prescribed = prescribed_in none }
+no_row = record { class1 = 0; class2 = 0; prescribed = prescribed_in None }
 
 -- found, and at n
 is_at : Option ℕ → ℕ → Bool
-is_at none n = false
-is_at (some k) n = eqb k n
+is_at None n = false
+is_at (Some k) n = eqb k n
 
-is_at_lem : (o : Option ℕ) (n : ℕ) → T (is_at o n) → o ≡ some n
+is_at_lem : (o : Option ℕ) (n : ℕ) → T (is_at o n) → o ≡ Some n
 unfolding is_at
-is_at_lem none n t = absurd t
-is_at_lem (some k) n t = ap some (eqb→eq k n t)
+is_at_lem None n t = absurd t
+is_at_lem (Some k) n t = ap Some (eqb→eq k n t)
 
 -- the row of the classes i + 1 and j + 1 stands at its place
 placed : ℕ → ℕ → Bool
@@ -53,7 +53,7 @@ row_count : length table_c4 ≡ 25
 unfolding table_c4
 row_count = refl
 
-placed_at : (i j : ℕ) → i < 5 → j < 5 → find (keyed (suc i) (suc j)) table_c4 ≡ some (get_or table_c4 (place_of (suc i) (suc j)) no_row)
+placed_at : (i j : ℕ) → i < 5 → j < 5 → find (keyed (suc i) (suc j)) table_c4 ≡ Some (get_or table_c4 (place_of (suc i) (suc j)) no_row)
 unfolding placed
 placed_at i j h g =
     ap (entry_at table_c4) (is_at_lem _ _ (below 5 (placed i) (below 5 (λ i. all_below 5 (placed i)) all_placed i h) j g))
@@ -66,7 +66,7 @@ numbered Class3 = (2, lit< tt, refl)
 numbered Class4 = (3, lit< tt, refl)
 numbered Class5 = (4, lit< tt, refl)
 
-pub row_found : (c d : DifferenceClass) → pattern_row c d ≡ some (get_or table_c4 (place_of (class_number c) (class_number d)) no_row)
+pub row_found : (c d : DifferenceClass) → pattern_row c d ≡ Some (get_or table_c4 (place_of (class_number c) (class_number d)) no_row)
 unfolding pattern_row
 row_found c d =
     let n = numbered c in

@@ -1,6 +1,5 @@
 -- Table C.4 of ISO/IEC 11172-3, "Layer II scalefactor transmission patterns" (C.1.5.2.5).
-use Rattle.std.specs.Prelude.{ℕ, min, Bool, true, false, cond, ◌&&◌, List, [], ◌∷◌, eqb}
-use Rattle.std.proofs.Math.Option.{Option, none, some}
+use Rattle.std.specs.Prelude.{ℕ, min, Bool, true, false, cond, ◌&&◌, List, [], ◌∷◌, eqb, Option, None, Some}
 use Rattle.tables.specs.Search.{find}
 use Rattle.audio_data.specs.Scfsi.{Three, three}
 use Rattle.encoder_scfsi.specs.declared.DifferenceClass.{DifferenceClass}
@@ -80,8 +79,8 @@ pattern_row class1 class2 = find (keyed (class_number class1) (class_number clas
 
 -- What it prescribes. Each pair of classes has a row; the first case only makes the function whole.
 abbrev pub prescribed_in : Option Row → Prescribed
-prescribed_in none = prescribes (three 1 2 3) every 0
-prescribed_in (some r) = r.prescribed
+prescribed_in None = prescribes (three 1 2 3) every 0
+prescribed_in (Some r) = r.prescribed
 
 unfoldable pub prescribed_for : DifferenceClass → DifferenceClass → Prescribed
 unfolding pattern_row

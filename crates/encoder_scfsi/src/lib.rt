@@ -2,7 +2,7 @@
 // C.1.5.2.5, with Table C.4.
 #![tactic(auto)]
 
-ghost use Rattle.std.specs.Prelude.{◌≡◌, min, pos, ◌-ℤ◌, get_or};
+ghost use Rattle.std.specs.Prelude.{◌≡◌, pos, ◌-ℤ◌, get_or};
 ghost use Rattle.encoder_scfsi.specs.Class.{difference_class, NumberIs};
 ghost use Rattle.encoder_scfsi.specs.TableC4.{prescribed_for, named};
 ghost use Rattle.encoder_scfsi.specs.Storage.{stored, kept};
@@ -21,7 +21,7 @@ pub enum DifferenceClass {
 }
 
 impl DifferenceClass {
-    // The class's number in Table C.4.
+    // The class's number in Table C.4, as it is printed there: a cast would leave it to the order of the variants.
     pub fn as_index(self) -> u8
         ensures { NumberIs self result }
     {
@@ -86,16 +86,13 @@ pub struct ScfsiSelection {
 pub fn select_scfsi(scalefactors: [u8; 3]) -> ScfsiSelection
     ensures { SelectionIs (get_or scalefactors 0 0) (get_or scalefactors 1 0) (get_or scalefactors 2 0) result }
 {
-    let scf1 = scalefactors[0];
-    let scf2 = scalefactors[1];
-    let scf3 = scalefactors[2];
-    let class1 = class_of_difference(scf1, scf2);
-    let class2 = class_of_difference(scf2, scf3);
+    let class1 = class_of_difference(scalefactors[0], scalefactors[1]);
+    let class2 = class_of_difference(scalefactors[1], scalefactors[2]);
     let row = row_of(class1, class2);
     let used = [
-        named(row[0], scf1, scf2, scf3),
-        named(row[1], scf1, scf2, scf3),
-        named(row[2], scf1, scf2, scf3),
+        named(row[0], scalefactors),
+        named(row[1], scalefactors),
+        named(row[2], scalefactors),
     ];
     let pattern = TransmissionPattern {
         write0: row[3] == 1,
@@ -122,7 +119,7 @@ fn class_of_difference(scf: u8, next: u8) -> DifferenceClass
 // Table C.4 in the order of the classes, which stand behind each row. A row has the scalefactor used for each granule, where
 // 1, 2 and 3 name those given and 4 their maximum; 1 for each used one that is transmitted, else 0; and the code of the
 // scfsi. Where one scalefactor serves all three granules, the third place is the one marked.
-const TABLE_C4: [[u8; 7]; 25] = [
+static TABLE_C4: [[u8; 7]; 25] = [
     [1, 2, 3, 1, 1, 1, 0], // 1 1
     [1, 2, 2, 1, 1, 0, 3], // 1 2
     [1, 2, 2, 1, 1, 0, 3], // 1 3
@@ -150,34 +147,29 @@ const TABLE_C4: [[u8; 7]; 25] = [
     [1, 2, 3, 1, 1, 1, 0], // 5 5
 ];
 
-fn table_c4() -> [[u8; 7]; 25]
-    ensures { result ≡ kept }
+fn table_c4() -> &'static [[u8; 7]; 25]
+    ensures { result.now ≡ kept }
 {
-    TABLE_C4
+    &TABLE_C4
 }
 
 fn row_of(class1: DifferenceClass, class2: DifferenceClass) -> [u8; 7]
     ensures { result ≡ stored (prescribed_for class1 class2) }
 {
     let rows = table_c4();
-    let at = 5 * ((class1.as_index() - 1) as usize) + ((class2.as_index() - 1) as usize);
+    let at = 5 * usize::from(class1.as_index() - 1) + usize::from(class2.as_index() - 1);
     rows[at]
 }
 
 // The index that the table names so.
-fn named(name: u8, scf1: u8, scf2: u8, scf3: u8) -> u8
-    ensures { result ≡ named scf1 scf2 scf3 name }
+fn named(name: u8, scalefactors: [u8; 3]) -> u8
+    ensures { result ≡ named (get_or scalefactors 0 0) (get_or scalefactors 1 0) (get_or scalefactors 2 0) name }
 {
+    let [scf1, scf2, scf3] = scalefactors;
     match name {
         1 => scf1,
         2 => scf2,
         3 => scf3,
-        _ => smaller(scf1, smaller(scf2, scf3)),
+        _ => scf1.min(scf2.min(scf3)),
     }
-}
-
-fn smaller(a: u8, b: u8) -> u8
-    ensures { result ≡ min a b }
-{
-    if a < b { a } else { b }
 }

@@ -6,6 +6,7 @@ ghost use Rattle.c_answers.specs.Replies.{table_selected, frame_sized};
 ghost use Rattle.c_answers.specs.Replies.{budget_fixed, bits_available, bits_demanded, steps_allocated, bits_allocated};
 
 use c_answers::arguments::HeaderNumbers;
+use c_answers::refusal::number_of;
 
 // The allocation table that a header selects.
 pub fn folgrist_select_table(
@@ -25,7 +26,7 @@ pub fn folgrist_select_table(
         table_selected)
         out.old result out.new }
 {
-    c_frame::select_table(
+    number_of(c_frame::select_table(
         HeaderNumbers {
             lsf,
             bit_rate,
@@ -36,7 +37,7 @@ pub fn folgrist_select_table(
             mode_extension,
         },
         out,
-    )
+    ))
 }
 
 // The length of the frame in bytes.
@@ -57,7 +58,7 @@ pub fn folgrist_frame_size_bytes(
         frame_sized)
         out.old result out.new }
 {
-    c_frame::frame_size_bytes(
+    number_of(c_frame::frame_size_bytes(
         HeaderNumbers {
             lsf,
             bit_rate,
@@ -68,7 +69,7 @@ pub fn folgrist_frame_size_bytes(
             mode_extension,
         },
         out,
-    )
+    ))
 }
 
 // The bits that are fixed for the frame.
@@ -89,7 +90,7 @@ pub fn folgrist_fixed_bit_budget(
         budget_fixed)
         out.old result out.new }
 {
-    c_frame::fixed_bit_budget(
+    number_of(c_frame::fixed_bit_budget(
         HeaderNumbers {
             lsf,
             bit_rate,
@@ -100,7 +101,7 @@ pub fn folgrist_fixed_bit_budget(
             mode_extension,
         },
         out,
-    )
+    ))
 }
 
 // The bits that the frame offers beside `banc` ancillary bits.
@@ -122,7 +123,7 @@ pub fn folgrist_available_data_bits(
         (bits_available banc))
         out.old result out.new }
 {
-    c_frame::available_data_bits(
+    number_of(c_frame::available_data_bits(
         HeaderNumbers {
             lsf,
             bit_rate,
@@ -134,7 +135,7 @@ pub fn folgrist_available_data_bits(
         },
         banc,
         out,
-    )
+    ))
 }
 
 // The bits that the signal-to-mask ratios demand.
@@ -156,7 +157,7 @@ pub fn folgrist_demand_bits(
         (bits_demanded smr_db.now))
         out.old result out.new }
 {
-    c_frame::demand_bits(
+    number_of(c_frame::demand_bits(
         HeaderNumbers {
             lsf,
             bit_rate,
@@ -168,7 +169,7 @@ pub fn folgrist_demand_bits(
         },
         smr_db,
         out,
-    )
+    ))
 }
 
 // The steps of each slot, and the bits left.
@@ -198,7 +199,7 @@ pub fn folgrist_allocate_bits(
         (bits_allocated smr_db.now banc))
         out.old result out.new }
 {
-    c_frame::allocate_bits(
+    number_of(c_frame::allocate_bits(
         HeaderNumbers {
             lsf,
             bit_rate,
@@ -212,5 +213,5 @@ pub fn folgrist_allocate_bits(
         smr_db,
         steps,
         out,
-    )
+    ))
 }

@@ -8,6 +8,8 @@ ghost use Rattle.c_side_info.specs.Replies.{bytes_written, bits_written, bytes_c
 ghost use Rattle.c_side_info_read.specs.Replies.{short, steps_read, scfsi_read, indices_read, bits_read};
 
 use c_answers::arguments::HeaderNumbers;
+use c_answers::refusal::number_of;
+use c_side_info::RecordSlices;
 
 // The side information as bytes, and how many of their bits are used.
 pub fn folgrist_write_side_info(
@@ -39,7 +41,7 @@ pub fn folgrist_write_side_info(
         bits_written)
         out.old result out.new }
 {
-    c_side_info::write_side_info(
+    number_of(c_side_info::write_side_info(
         HeaderNumbers {
             lsf,
             bit_rate,
@@ -49,12 +51,14 @@ pub fn folgrist_write_side_info(
             mode,
             mode_extension,
         },
-        steps,
-        scfsi,
-        index,
+        RecordSlices {
+            steps,
+            scfsi,
+            index,
+        },
         bytes,
         out,
-    )
+    ))
 }
 
 // The same in its one form: each active slot with the scfsi that sends the fewest indices.
@@ -87,7 +91,7 @@ pub fn folgrist_write_side_info_canonical(
         bits_canonical)
         out.old result out.new }
 {
-    c_side_info::write_side_info_canonical(
+    number_of(c_side_info::write_side_info_canonical(
         HeaderNumbers {
             lsf,
             bit_rate,
@@ -97,12 +101,14 @@ pub fn folgrist_write_side_info_canonical(
             mode,
             mode_extension,
         },
-        steps,
-        scfsi,
-        index,
+        RecordSlices {
+            steps,
+            scfsi,
+            index,
+        },
         bytes,
         out,
-    )
+    ))
 }
 
 // The record that stands at the front of the bytes, and how many of their bits are used.
@@ -145,7 +151,7 @@ pub fn folgrist_read_side_info(
         (bits_read bytes.now))
         out.old result out.new }
 {
-    c_side_info_read::read_side_info(
+    number_of(c_side_info_read::read_side_info(
         HeaderNumbers {
             lsf,
             bit_rate,
@@ -160,7 +166,7 @@ pub fn folgrist_read_side_info(
         scfsi,
         index,
         out,
-    )
+    ))
 }
 
 // Whether the record hangs together in the header's layout; where it does not, the subband and the channel that it fails at.
@@ -185,7 +191,7 @@ pub fn folgrist_check_record(
         place_checked)
         out.old result out.new }
 {
-    c_side_info::check_record(
+    number_of(c_side_info::check_record(
         HeaderNumbers {
             lsf,
             bit_rate,
@@ -195,9 +201,11 @@ pub fn folgrist_check_record(
             mode,
             mode_extension,
         },
-        steps,
-        scfsi,
-        index,
+        RecordSlices {
+            steps,
+            scfsi,
+            index,
+        },
         out,
-    )
+    ))
 }

@@ -1,11 +1,12 @@
 // The functions of an allocation table, and of a number of steps alone.
 ghost use Rattle.std.specs.Prelude.{◌||◌, ltb, length};
-ghost use Rattle.std.proofs.Math.Option.{some};
+ghost use Rattle.std.specs.Prelude.{Some};
 ghost use Rattle.quantization.specs.Classes.{SampleBitsAre};
 ghost use Rattle.c_answers.specs.Answers.{asked, answered, Answers};
 ghost use Rattle.c_answers.specs.Arguments.{table_meant};
 ghost use Rattle.c_answers.specs.Replies.{limits_at, steps_found, index_found, coefficients, class_figures, snr_found};
 
+use c_answers::refusal::number_of;
 use c_subband::table_rows;
 
 // How many subbands a table carries, and the bits of a subband's allocation field.
@@ -16,7 +17,7 @@ pub fn folgrist_table_limits(table: u8, sb: u64, out: &mut [u32]) -> u32
         (limits_at sb))
         out.old result out.new }
 {
-    table_rows::table_limits(table, sb, out)
+    number_of(table_rows::table_limits(table, sb, out))
 }
 
 // The steps at a place of a subband's row.
@@ -27,7 +28,7 @@ pub fn folgrist_nb_steps(table: u8, sb: u64, index: u32, out: &mut [u32]) -> u32
         (steps_found sb index))
         out.old result out.new }
 {
-    table_rows::nb_steps(table, sb, index, out)
+    number_of(table_rows::nb_steps(table, sb, index, out))
 }
 
 // The place of a subband's row that has these steps.
@@ -38,23 +39,23 @@ pub fn folgrist_allocation_index(table: u8, sb: u64, steps: u32, out: &mut [u32]
         (index_found sb steps))
         out.old result out.new }
 {
-    table_rows::allocation_index(table, sb, steps, out)
+    number_of(table_rows::allocation_index(table, sb, steps, out))
 }
 
 // The class of quantization of a number of steps.
 pub fn folgrist_class_of_quantization(steps: u32, cd: &mut [f64], out: &mut [u32]) -> u32
     ensures cd_written { Answers
         (answered
-        (asked (ltb (length cd.old) 2 || ltb (length out.old) 4) (some steps))
+        (asked (ltb (length cd.old) 2 || ltb (length out.old) 4) (Some steps))
         coefficients)
         cd.old result cd.new }
     ensures out_written { Answers
         (answered
-        (asked (ltb (length cd.old) 2 || ltb (length out.old) 4) (some steps))
+        (asked (ltb (length cd.old) 2 || ltb (length out.old) 4) (Some steps))
         class_figures)
         out.old result out.new }
 {
-    table_rows::class_of_quantization(steps, cd, out)
+    number_of(table_rows::class_of_quantization(steps, cd, out))
 }
 
 // The bits of a subband's 36 samples.
@@ -68,9 +69,9 @@ pub fn folgrist_sample_bits_for(steps: u32) -> u32
 pub fn folgrist_snr_db(steps: u32, out: &mut [f64]) -> u32
     ensures { Answers
         (answered
-        (asked (ltb (length out.old) 1) (some steps))
+        (asked (ltb (length out.old) 1) (Some steps))
         snr_found)
         out.old result out.new }
 {
-    table_rows::snr_db(steps, out)
+    number_of(table_rows::snr_db(steps, out))
 }

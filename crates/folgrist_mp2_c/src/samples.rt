@@ -1,5 +1,5 @@
 // The functions of samples: their codes, and the codewords of three.
-ghost use Rattle.std.proofs.Math.Option.{some};
+ghost use Rattle.std.specs.Prelude.{Some};
 ghost use Rattle.std.specs.Prelude.{[], ◌∷◌, ltb, length};
 ghost use Rattle.c_answers.specs.Answers.{asked, answered, Answers};
 ghost use Rattle.c_answers.specs.Replies.{sample_coded, triplet_coded};
@@ -9,7 +9,7 @@ ghost use Rattle.c_answers.specs.Replies.{sample_coded, triplet_coded};
 pub extern "C" fn folgrist_quantize_sample(steps: u32, sample: f64, out: &mut [u32]) -> u32
     ensures { Answers
         (answered
-        (asked (ltb (length out.old) 1) (some steps))
+        (asked (ltb (length out.old) 1) (Some steps))
         (sample_coded sample))
         out.old result out.new }
 {
@@ -21,7 +21,7 @@ pub extern "C" fn folgrist_quantize_sample(steps: u32, sample: f64, out: &mut [u
 pub extern "C" fn folgrist_write_triplet(steps: u32, a: f64, b: f64, c: f64, out: &mut [u32]) -> u32
     ensures { Answers
         (answered
-        (asked (ltb (length out.old) 5) (some steps))
+        (asked (ltb (length out.old) 5) (Some steps))
         (triplet_coded (a ∷ b ∷ c ∷ [])))
         out.old result out.new }
 {

@@ -1,6 +1,6 @@
 // The functions of scalefactors: indices of samples, and which of a slot's three are used and transmitted.
 ghost use Rattle.std.specs.Prelude.{◌||◌, [], ◌∷◌, ltb, length};
-ghost use Rattle.std.proofs.Math.Option.{some};
+ghost use Rattle.std.specs.Prelude.{Some};
 ghost use Rattle.encoder_scalefactors.specs.Indices.{PickIs};
 ghost use Rattle.c_answers.specs.Answers.{asked, answered, Answers};
 ghost use Rattle.c_answers.specs.Replies.{granule_indexed, frame_indexed, scfsi_selected};
@@ -18,7 +18,7 @@ pub extern "C" fn folgrist_pick_scalefactor_index(max_abs: f64) -> u8
 pub extern "C" fn folgrist_select_scfsi(a: u8, b: u8, c: u8, out: &mut [u8]) -> u32
     ensures { Answers
         (answered
-        (asked (ltb (length out.old) 9) (some (a ∷ b ∷ c ∷ [])))
+        (asked (ltb (length out.old) 9) (Some (a ∷ b ∷ c ∷ [])))
         scfsi_selected)
         out.old result out.new }
 {
@@ -30,7 +30,7 @@ pub extern "C" fn folgrist_select_scfsi(a: u8, b: u8, c: u8, out: &mut [u8]) -> 
 pub extern "C" fn folgrist_extract_scalefactor_index(samples: &[f64], out: &mut [u8]) -> u32
     ensures { Answers
         (answered
-        (asked (ltb (length samples.now) 12 || ltb (length out.old) 1) (some samples.now))
+        (asked (ltb (length samples.now) 12 || ltb (length out.old) 1) (Some samples.now))
         granule_indexed)
         out.old result out.new }
 {
@@ -42,7 +42,7 @@ pub extern "C" fn folgrist_extract_scalefactor_index(samples: &[f64], out: &mut 
 pub extern "C" fn folgrist_compute_scalefactors(samples: &[f64], limit: u64, out: &mut [u8]) -> u32
     ensures { Answers
         (answered
-        (asked (ltb (length samples.now) 1152 || ltb (length out.old) 96) (some samples.now))
+        (asked (ltb (length samples.now) 1152 || ltb (length out.old) 96) (Some samples.now))
         (frame_indexed limit))
         out.old result out.new }
 {

@@ -1,6 +1,6 @@
 // The functions of an allocation table, and of a number of steps alone.
 ghost use Rattle.std.specs.Prelude.{◌||◌, ltb, length};
-ghost use Rattle.std.proofs.Math.Option.{some};
+ghost use Rattle.std.specs.Prelude.{Some};
 ghost use Rattle.quantization.specs.Classes.{SampleBitsAre};
 ghost use Rattle.c_answers.specs.Answers.{asked, answered, Answers};
 ghost use Rattle.c_answers.specs.Arguments.{table_meant};
@@ -47,12 +47,12 @@ pub extern "C" fn folgrist_allocation_index(table: u8, sb: u64, steps: u32, out:
 pub extern "C" fn folgrist_class_of_quantization(steps: u32, cd: &mut [f64], out: &mut [u32]) -> u32
     ensures cd_written { Answers
         (answered
-        (asked (ltb (length cd.old) 2 || ltb (length out.old) 4) (some steps))
+        (asked (ltb (length cd.old) 2 || ltb (length out.old) 4) (Some steps))
         coefficients)
         cd.old result cd.new }
     ensures out_written { Answers
         (answered
-        (asked (ltb (length cd.old) 2 || ltb (length out.old) 4) (some steps))
+        (asked (ltb (length cd.old) 2 || ltb (length out.old) 4) (Some steps))
         class_figures)
         out.old result out.new }
 {
@@ -72,7 +72,7 @@ pub extern "C" fn folgrist_sample_bits_for(steps: u32) -> u32
 pub extern "C" fn folgrist_snr_db(steps: u32, out: &mut [f64]) -> u32
     ensures { Answers
         (answered
-        (asked (ltb (length out.old) 1) (some steps))
+        (asked (ltb (length out.old) 1) (Some steps))
         snr_found)
         out.old result out.new }
 {

@@ -1,2 +1,1 @@
 pub mod QuestionLaws
-pub mod CodeLaws

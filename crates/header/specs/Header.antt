@@ -1,23 +1,17 @@
 -- The frame header of ISO/IEC 11172-3: modes and extensions, channels and bound (2.4.2.3), and the size of the frame (2.4.3.1).
-use Rattle.std.specs.Prelude.{ℕ, ◌+◌, ◌*◌, ◌/◌, ◌≤◌, Bool, not, cond, [], ◌∷◌, ◌≡◌, eqb}
-use Rattle.std.proofs.Math.Option.{Option, none, some}
-use Rattle.std.proofs.Math.ListN.{get_elem?}
+use Rattle.std.specs.Prelude.{ℕ, ◌+◌, ◌*◌, ◌/◌, ◌≤◌, Bool, not, cond, [], ◌∷◌, ◌≡◌, eqb, Option, None, Some, slice_get, Result, ok_or}
 use Rattle.header.specs.declared.Mode.{Mode}
 use Rattle.header.specs.declared.Mode.TheVariants.{Stereo, JointStereo, DualChannel, SingleChannel}
 use Rattle.header.specs.declared.ModeExtension.{ModeExtension}
+use Rattle.header.specs.declared.UnknownMode.{UnknownMode}
+use Rattle.header.specs.declared.UnknownExtension.{UnknownExtension}
 use Rattle.header.specs.declared.ModeExtension.TheVariants.{Bound4, Bound8, Bound12, Bound16}
-use Rattle.header.specs.declared.OptionMode.{OptionMode}
-use Rattle.header.specs.declared.OptionMode.TheVariants as ModeOption
-use Rattle.header.specs.declared.OptionExtension.{OptionExtension}
-use Rattle.header.specs.declared.OptionExtension.TheVariants as ExtensionOption
 use Rattle.header.specs.declared.FrameHeader.{FrameHeader}
-use Rattle.header.specs.declared.FrameSize.{FrameSize}
-use Rattle.header.specs.declared.FrameSize.TheVariants.{Bytes, ZeroSampleRate}
 use Rattle.header.specs.Questions.{Question, number}
 
 -- mode: '00' is stereo, '01' joint_stereo, '10' dual_channel, '11' single_channel
 abbrev pub mode_of_code : ℕ → Option Mode
-mode_of_code code = get_elem? (Stereo ∷ JointStereo ∷ DualChannel ∷ SingleChannel ∷ []) code
+mode_of_code code = slice_get (Stereo ∷ JointStereo ∷ DualChannel ∷ SingleChannel ∷ []) code
 
 -- single_channel has one channel, every other mode two
 abbrev pub channels_of : Mode → ℕ
@@ -28,7 +22,7 @@ channels_of SingleChannel = 1
 
 -- mode_extension: the bound is 4 at '00', 8 at '01', 12 at '10', 16 at '11'
 abbrev pub extension_of_code : ℕ → Option ModeExtension
-extension_of_code code = get_elem? (Bound4 ∷ Bound8 ∷ Bound12 ∷ Bound16 ∷ []) code
+extension_of_code code = slice_get (Bound4 ∷ Bound8 ∷ Bound12 ∷ Bound16 ∷ []) code
 
 -- the subbands from the bound on are in intensity stereo
 abbrev pub bound_of : ModeExtension → ℕ
@@ -37,14 +31,12 @@ bound_of Bound8 = 8
 bound_of Bound12 = 12
 bound_of Bound16 = 16
 
--- what the enums of a value or nothing stand for
-abbrev pub mode_in : OptionMode → Option Mode
-mode_in (ModeOption.Some m) = some m
-mode_in ModeOption.None = none
+-- a code is read: it names a mode, or is handed back
+abbrev pub ModeNamed : ℕ → Result Mode UnknownMode → Type 0
+ModeNamed code r = r ≡ ok_or (mode_of_code code) (record { 0 = code })
 
-abbrev pub extension_in : OptionExtension → Option ModeExtension
-extension_in (ExtensionOption.Some e) = some e
-extension_in ExtensionOption.None = none
+abbrev pub ExtensionNamed : ℕ → Result ModeExtension UnknownExtension → Type 0
+ExtensionNamed code r = r ≡ ok_or (extension_of_code code) (record { 0 = code })
 
 -- free format: no bit rate is named
 abbrev pub free_format : FrameHeader → Bool
@@ -61,10 +53,10 @@ pub record Size : Type 0 where
   pub answer : ℕ
   pub bytes : ℕ
 
--- what each case of the enum stands for
-abbrev pub size_of : FrameSize → Size
-size_of (Bytes n) = record { answer = 0; bytes = n }
-size_of ZeroSampleRate = record { answer = 2; bytes = 0 }
+-- what the answer stands for; there is none where the sample rate is 0
+abbrev pub size_of : Option ℕ → Size
+size_of (Some n) = record { answer = 0; bytes = n }
+size_of None = record { answer = 2; bytes = 0 }
 
 -- question 2: the sample rate is not 0
 abbrev pub sample_rate_asked : FrameHeader → Question ℕ
@@ -91,6 +83,6 @@ pub record BoundIs (e : ModeExtension) (r : ℕ) : Type 0 where
   pub whole : r ≡ bound_of e
   pub most : r ≤ 16
 
-pub record SizeIs (h : FrameHeader) (r : FrameSize) : Type 0 where
+pub record SizeIs (h : FrameHeader) (r : Option ℕ) : Type 0 where
   pub whole : size_of r ≡ frame_size h
   pub most : (size_of r).bytes ≤ 618_475_290_481

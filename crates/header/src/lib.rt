@@ -2,10 +2,10 @@
 #![tactic(auto)]
 
 ghost use Rattle.std.specs.Prelude.{◌≡◌};
-ghost use Rattle.header.specs.Header.{mode_of_code, mode_in, extension_of_code, extension_in, free_format, ChannelsAre, BoundIs, SizeIs};
+ghost use Rattle.header.specs.Header.{ModeNamed, ExtensionNamed, free_format, ChannelsAre, BoundIs, SizeIs};
 
 // The channel mode (2.4.2.3).
-#[derive(Clone, Copy)]
+#[derive(Clone, Copy, Debug, PartialEq, Eq)]
 pub enum Mode {
     Stereo,
     JointStereo,
@@ -13,27 +13,28 @@ pub enum Mode {
     SingleChannel,
 }
 
-// A mode, or nothing.
-#[derive(Clone, Copy)]
-pub enum OptionMode {
-    Some(Mode),
-    None,
+// A code that names no mode.
+#[derive(Clone, Copy, Debug, PartialEq, Eq)]
+pub struct UnknownMode(pub u64);
+
+// The mode of a code of two bits.
+impl TryFrom<u64> for Mode {
+    type Error = UnknownMode;
+
+    ghost try_from_gives = { ModeNamed };
+
+    fn try_from(code: u64) -> Result<Self, UnknownMode> {
+        match code {
+            0 => Ok(Mode::Stereo),
+            1 => Ok(Mode::JointStereo),
+            2 => Ok(Mode::DualChannel),
+            3 => Ok(Mode::SingleChannel),
+            _ => Err(UnknownMode(code)),
+        }
+    }
 }
 
 impl Mode {
-    // The mode of a code of two bits.
-    pub fn of_code(code: u64) -> OptionMode
-        ensures { mode_in result ≡ mode_of_code code }
-    {
-        match code {
-            0 => OptionMode::Some(Mode::Stereo),
-            1 => OptionMode::Some(Mode::JointStereo),
-            2 => OptionMode::Some(Mode::DualChannel),
-            3 => OptionMode::Some(Mode::SingleChannel),
-            _ => OptionMode::None,
-        }
-    }
-
     // How many channels the mode has.
     pub fn channels(self) -> usize
         ensures { ChannelsAre self result }
@@ -48,7 +49,7 @@ impl Mode {
 }
 
 // The mode extension (2.4.2.3): in joint stereo, from which subband on the two channels share their samples.
-#[derive(Clone, Copy)]
+#[derive(Clone, Copy, Debug, PartialEq, Eq)]
 pub enum ModeExtension {
     Bound4,
     Bound8,
@@ -56,27 +57,28 @@ pub enum ModeExtension {
     Bound16,
 }
 
-// A mode extension, or nothing.
-#[derive(Clone, Copy)]
-pub enum OptionExtension {
-    Some(ModeExtension),
-    None,
+// A code that names no mode extension.
+#[derive(Clone, Copy, Debug, PartialEq, Eq)]
+pub struct UnknownExtension(pub u64);
+
+// The mode extension of a code of two bits.
+impl TryFrom<u64> for ModeExtension {
+    type Error = UnknownExtension;
+
+    ghost try_from_gives = { ExtensionNamed };
+
+    fn try_from(code: u64) -> Result<Self, UnknownExtension> {
+        match code {
+            0 => Ok(ModeExtension::Bound4),
+            1 => Ok(ModeExtension::Bound8),
+            2 => Ok(ModeExtension::Bound12),
+            3 => Ok(ModeExtension::Bound16),
+            _ => Err(UnknownExtension(code)),
+        }
+    }
 }
 
 impl ModeExtension {
-    // The extension of a code of two bits.
-    pub fn of_code(code: u64) -> OptionExtension
-        ensures { extension_in result ≡ extension_of_code code }
-    {
-        match code {
-            0 => OptionExtension::Some(ModeExtension::Bound4),
-            1 => OptionExtension::Some(ModeExtension::Bound8),
-            2 => OptionExtension::Some(ModeExtension::Bound12),
-            3 => OptionExtension::Some(ModeExtension::Bound16),
-            _ => OptionExtension::None,
-        }
-    }
-
     // The subband that the extension names.
     pub fn bound(self) -> usize
         ensures { BoundIs self result }
@@ -106,27 +108,20 @@ pub struct FrameHeader {
     pub protection_bit: bool,
 }
 
-// What `frame_size_bytes` answers.
-#[derive(Clone, Copy)]
-pub enum FrameSize {
-    Bytes(u64),
-    ZeroSampleRate,
-}
-
 impl FrameHeader {
-    // The length of the frame in bytes (2.4.3.1; a slot of Layer II is one byte).
-    pub fn frame_size_bytes(self) -> FrameSize
+    // The length of the frame in bytes (2.4.3.1; a slot of Layer II is one byte); none at a sample rate of 0.
+    pub fn frame_size_bytes(self) -> Option<u64>
         ensures { SizeIs self result }
     {
         let sample_rate = self.sample_rate;
         if sample_rate == 0 {
-            return FrameSize::ZeroSampleRate;
+            return None;
         }
         let slots = 144 * (self.bit_rate as u64) / (sample_rate as u64);
         if self.padding {
-            FrameSize::Bytes(slots + 1)
+            Some(slots + 1)
         } else {
-            FrameSize::Bytes(slots)
+            Some(slots)
         }
     }
 

@@ -1,8 +1,8 @@
 -- The walk over a text: what holds before each character, and what follows where it ends.
-use mathlib.Core.Path.{◌≡◌, refl, sym, ap, ◌∙◌}
+use mathlib.Core.Path.{◌≡◌, refl, sym, ap, ◌∙◌, subst}
 use mathlib.Core.Bool.{Bool, true, false, cond}
 use mathlib.Core.List.{List, [], ◌∷◌, ◌++◌}
-use mathlib.Core.Option.{none, some}
+use Rattle.std.specs.Prelude.{Option, None, Some, Ok, Err, IfSome, Result}
 use Prim.Native.Nat.{ℕ, ◌+◌, ◌*◌, ◌≤◌, ◌<◌}
 use native.Mathlib.Numerals.{add-one}
 use native.Mathlib.Omega.{arith}
@@ -10,12 +10,12 @@ use lib.ListN.{length, get_or, take, drop, length-append, drop_of_length-le}
 use lib.Seq.{drop-cons}
 use Rattle.plan_text.specs.Lines.{ends_line}
 use Rattle.hex_text.specs.declared.Digits.{Digits}
-use Rattle.hex_text.specs.declared.HexRead.{HexRead}
-use Rattle.hex_text.specs.declared.HexAnswer.TheVariants.{Accepted}
+use Rattle.hex_text.specs.declared.HexError.{HexError}
+use Rattle.hex_text.specs.declared.HexError.TheVariants.{WrongCharacter, OddDigits}
 use Rattle.hex_text.specs.declared.Place.{Place}
-use Rattle.hex_text.specs.Hex.{HexText, digit_of, first_place, next_line, next_column, past, skipped, paired, is_odd, accepted, wrong_at, odd_on, read_from, hex_of, HexIs}
-use Rattle.hex_text.specs.Walk.{Held, Put, finished_as}
-use Rattle.hex_text.proofs.DigitLaws.{few}
+use Rattle.hex_text.specs.Hex.{digit_of, first_place, next_line, next_column, past, skipped, paired, is_odd, accepted, wrong_at, odd_on, read_from, hex_of, counted as counted_in, HexIs}
+use Rattle.hex_text.specs.Walk.{Held, Put, ended, finished_as}
+use Rattle.hex_text.proofs.DigitLaws.{few, odd_left, none_left}
 
 -- ---- the next character
 
@@ -27,11 +27,11 @@ module _ (text : List ℕ) (i : ℕ) (p : Place) (ds : List ℕ) (last : ℕ) wh
   unfolding read_from
   skip_at h e = rw (add-one i, drop-cons text i 0 h, e)
 
-  wrong_at_lem : i < length text → skipped p b ≡ false → digit_of b ≡ none → read_from p ds last (drop i text) ≡ wrong_at p
+  wrong_at_lem : i < length text → skipped p b ≡ false → digit_of b ≡ None → read_from p ds last (drop i text) ≡ wrong_at p
   unfolding read_from
   wrong_at_lem h e z = rw (drop-cons text i 0 h, e, z)
 
-  digit_at : (d : ℕ) → i < length text → skipped p b ≡ false → digit_of b ≡ some d
+  digit_at : (d : ℕ) → i < length text → skipped p b ≡ false → digit_of b ≡ Some d
       → read_from p ds last (drop i text) ≡ read_from (past p b) (ds ++ d ∷ []) (p.line + 1) (drop (i + 1) text)
   unfolding read_from
   digit_at d h e z = rw (add-one i, drop-cons text i 0 h, e, z)
@@ -60,6 +60,14 @@ module _ (p : Place) (c i : ℕ) where
       go true = omega arith
       go false = omega arith
 
+-- ---- what an answer tells
+
+no_bytes : (e : HexError) (b : List ℕ) → ◌≡◌ {A = Result (List ℕ) HexError} (Err e) (Ok b) → ⊥
+no_bytes e b q = cc
+
+these : (a b : List ℕ) → ◌≡◌ {A = Result (List ℕ) HexError} (Ok a) (Ok b) → a ≡ b
+these a b q = cc
+
 -- ---- before each character
 
 -- the digits got are held, and the text from the place on is still to come
@@ -71,24 +79,24 @@ pub record Walked (text old buffer : List ℕ) (p : Place) (d : Digits) (i : ℕ
   pub within : i ≤ length text
   pub line : p.line ≤ i
   pub column : p.column ≤ i
-  pub small : d.high < 16
+  pub small : IfSome d.high (λ high. high < 16)
   pub long : length buffer ≡ length old
 
 pub same_walk : {text old buffer newer : List ℕ} {p q : Place} {d e : Digits} {i : ℕ} → newer ≡ buffer → q ≡ p → e ≡ d → Walked text old buffer p d i
     → Walked text old newer q e i
 same_walk a b c w = rw (a, b, c) w
 
-pub at_first : (text old : List ℕ) → Walked text old old first_place (record { count = 0; half = false; high = 0; last = 0 }) 0
+pub at_first : (text old : List ℕ) → Walked text old old first_place (record { count = 0; high = None; last = 0 }) 0
 unfolding hex_of
 at_first text old = record {
   got = [];
-  held = record { half = refl; high = refl; count = refl; stored = λ l. refl };
+  held = record { high = refl; count = refl; stored = λ l. refl };
   left = refl;
   few = omega arith;
   within = omega arith;
   line = omega arith;
   column = omega arith;
-  small = omega arith;
+  small = tt;
   long = refl;
 }
 
@@ -115,7 +123,7 @@ module _ (text old buffer : List ℕ) (p : Place) (d : Digits) (i : ℕ) (w : Wa
       long = w.long;
     }
 
-    pub at_digit : (x : ℕ) (new : List ℕ) (r : Digits) → skipped p byte ≡ false → digit_of byte ≡ some x → Put d x (p.line + 1) buffer new r
+    pub at_digit : (x : ℕ) (new : List ℕ) (r : Digits) → skipped p byte ≡ false → digit_of byte ≡ Some x → Put d x (p.line + 1) buffer new r
         → Walked text old new (past p byte) r (i + 1)
     at_digit x new r e z q = record {
       got = w.got ++ x ∷ [];
@@ -130,34 +138,38 @@ module _ (text old buffer : List ℕ) (p : Place) (d : Digits) (i : ℕ) (w : Wa
       long = q.long ∙ w.long;
     }
 
-    pub at_wrong : (r : HexRead) → skipped p byte ≡ false → digit_of byte ≡ none → r ≡ (wrong_at p).read → HexIs text buffer r
-    unfolding wrong_at
-    at_wrong r e z q =
+    pub at_wrong : skipped p byte ≡ false → digit_of byte ≡ None → HexIs text buffer (Err (WrongCharacter (p.line + 1) (p.column + 1)))
+    at_wrong e z =
         let all = w.left ∙ wrong_at_lem text i p w.got d.last h e z in
         record {
-          whole = q ∙ ap (λ (t : HexText). t.read) (sym all);
-          bytes = λ l. ap (λ (t : HexRead). take t.count buffer) q ∙ ap (λ (t : HexText). t.bytes) (sym all);
-          few = omega (arith, ap (λ (t : HexRead). t.count) q);
+          whole = ap counted_in (sym all);
+          bytes = λ b q l. absurd (no_bytes (WrongCharacter (p.line + 1) (p.column + 1)) b (sym all ∙ q));
+          few = tt;
         }
 
   -- at the end of the text
   pub at_end : length text ≤ i → HexIs text buffer (finished_as d)
-  unfolding odd_on accepted
-  at_end h = go d.half refl
+  at_end h = go d.high refl
     where
-      all : hex_of text ≡ cond d.half (odd_on d.last) (accepted (paired w.got))
+      all : hex_of text ≡ cond (is_odd w.got) (odd_on d.last) (accepted (paired w.got))
       all = w.left ∙ end_at text i p w.got d.last h
-          ∙ ap (λ (t : Bool). cond t (odd_on d.last) (accepted (paired w.got))) (sym w.held.half)
 
-      go : (t : Bool) → d.half ≡ t → HexIs text buffer (finished_as d)
-      go true e =
-          let whole : hex_of text ≡ odd_on d.last = rw e at all in
-          rw e (record { whole = ap (λ (t : HexText). t.read) (sym whole); bytes = λ l. ap (λ (t : HexText). t.bytes) (sym whole); few = omega arith })
-      go false e =
-          let whole : hex_of text ≡ accepted (paired w.got) = rw e at all in
-          rw e
-          (record {
-            whole = ap (λ (n : ℕ). record { answer = Accepted; line = 0; column = 0; count = n }) w.held.count ∙ ap (λ (t : HexText). t.read) (sym whole);
-            bytes = λ l. w.held.stored l ∙ ap (λ (t : HexText). t.bytes) (sym whole);
+      go : (t : Option ℕ) → d.high ≡ t → HexIs text buffer (ended t d.last d.count)
+      go (Some x) e =
+          let odd = odd_left w.got x (sym w.held.high ∙ e) in
+          let whole : hex_of text ≡ odd_on d.last = rw odd at all in
+          record {
+            whole = ap counted_in (sym whole);
+            bytes = λ b q l. absurd (no_bytes (OddDigits d.last) b (sym whole ∙ q));
+            few = tt;
+          }
+      go None e =
+          let even = none_left w.got (sym w.held.high ∙ e) in
+          let whole : hex_of text ≡ accepted (paired w.got) = rw even at all in
+          record {
+            whole = ap (λ (n : ℕ). Ok n) w.held.count ∙ ap counted_in (sym whole);
+            bytes = λ b q.
+                subst (λ (c : List ℕ). length c ≤ length buffer → take (length c) buffer ≡ c) (these (paired w.got) b (sym whole ∙ q))
+                (λ l. ap (λ (n : ℕ). take n buffer) (sym w.held.count) ∙ w.held.stored (omega (arith, w.held.count)));
             few = omega (arith, counted);
-          })
+          }

@@ -1,11 +1,10 @@
 -- Bytes written as hexadecimal digits. Line feeds and white space are skipped, and so is a comment, from # to the end of its line. What is left has to be
 -- digits, two for each byte, the high one first.
-use Rattle.std.specs.Prelude.{ℕ, ◌+◌, ◌-◌, ◌*◌, ◌≤◌, ◌≡◌, Bool, true, false, cond, ◌&&◌, ◌||◌, List, [], ◌∷◌, ◌++◌, leb, length, take}
+use Rattle.std.specs.Prelude.{ℕ, ◌+◌, ◌-◌, ◌*◌, ◌≤◌, ◌≡◌, Bool, true, false, cond, ◌&&◌, ◌||◌, List, [], ◌∷◌, ◌++◌, leb, length, take, Option, Some, None, Result, Ok, Err, IfOk}
 use Prim.Native.Char.{code}
-use Rattle.std.proofs.Math.Option.{Option, none, some}
 use Rattle.plan_text.specs.Lines.{ends_line, is_hash, is_blank}
-use Rattle.hex_text.specs.declared.HexAnswer.TheVariants.{Accepted, WrongCharacter, OddDigits}
-use Rattle.hex_text.specs.declared.HexRead.{HexRead}
+use Rattle.hex_text.specs.declared.HexError.{HexError}
+use Rattle.hex_text.specs.declared.HexError.TheVariants.{WrongCharacter, OddDigits}
 use Rattle.hex_text.specs.declared.Place.{Place}
 
 -- ---- a character
@@ -16,10 +15,10 @@ between least most b = leb least b && leb b most
 -- what a digit is worth: 0 to 9, a to f or A to F; none for any other character
 unfoldable pub digit_of : ℕ → Option ℕ
 digit_of b =
-    cond (between (code "0") (code "9") b) (some (b - code "0"))
-    (cond (between (code "a") (code "f") b) (some (10 + (b - code "a")))
-    (cond (between (code "A") (code "F") b) (some (10 + (b - code "A")))
-    none))
+    cond (between (code "0") (code "9") b) (Some (b - code "0"))
+    (cond (between (code "a") (code "f") b) (Some (10 + (b - code "a")))
+    (cond (between (code "A") (code "F") b) (Some (10 + (b - code "A")))
+    None))
 
 -- A place has the lines before it, the characters before it on its line, and whether a comment has begun there.
 abbrev pub first_place : Place
@@ -55,39 +54,40 @@ is_odd (high ∷ low ∷ ds) = is_odd ds
 
 -- ---- the answer: lines and columns are counted from 1
 
-pub record HexText : Type 0 where
-  pub read : HexRead
-  pub bytes : List ℕ
-
-unfoldable pub accepted : List ℕ → HexText
-accepted bytes = record { read = record { answer = Accepted; line = 0; column = 0; count = length bytes }; bytes = bytes }
+abbrev pub accepted : List ℕ → Result (List ℕ) HexError
+accepted bytes = Ok bytes
 
 -- a character that is neither skipped nor a digit
-unfoldable pub wrong_at : Place → HexText
-wrong_at p = record { read = record { answer = WrongCharacter; line = p.line + 1; column = p.column + 1; count = 0 }; bytes = [] }
+abbrev pub wrong_at : Place → Result (List ℕ) HexError
+wrong_at p = Err (WrongCharacter (p.line + 1) (p.column + 1))
 
 -- an odd number of digits, the last of which is on that line
-unfoldable pub odd_on : ℕ → HexText
-odd_on line = record { read = record { answer = OddDigits; line = line; column = 0; count = 0 }; bytes = [] }
+abbrev pub odd_on : ℕ → Result (List ℕ) HexError
+odd_on line = Err (OddDigits line)
 
 -- what a character gives, by what it is worth
-abbrev pub where_digit : Option ℕ → HexText → (ℕ → HexText) → HexText
-where_digit none other f = other
-where_digit (some d) other f = f d
+abbrev pub where_digit : {A : Type 0} → Option ℕ → A → (ℕ → A) → A
+where_digit None other f = other
+where_digit (Some d) other f = f d
 
 -- the answer to the text from a place on, where `digits` stand before it, the last of them on the line `last`
-unfoldable pub read_from : Place → List ℕ → ℕ → List ℕ → HexText
+unfoldable pub read_from : Place → List ℕ → ℕ → List ℕ → Result (List ℕ) HexError
 read_from p digits last [] = cond (is_odd digits) (odd_on last) (accepted (paired digits))
 read_from p digits last (b ∷ bs) =
     cond (skipped p b) (read_from (past p b) digits last bs)
     (where_digit (digit_of b) (wrong_at p) (λ d. read_from (past p b) (digits ++ d ∷ []) (p.line + 1) bs))
 
 -- the whole answer
-unfoldable pub hex_of : List ℕ → HexText
+unfoldable pub hex_of : List ℕ → Result (List ℕ) HexError
 hex_of text = read_from first_place [] 0 text
 
+-- how many bytes there are, or the refusal
+abbrev pub counted : Result (List ℕ) HexError → Result ℕ HexError
+counted (Ok bytes) = Ok (length bytes)
+counted (Err e) = Err e
+
 -- what `read_hex` promises: the answer, and the bytes where the buffer has room for all of them; what stands behind them, or beside a refusal, is not said
-pub record HexIs (text buffer : List ℕ) (r : HexRead) : Type 0 where
-  pub whole : r ≡ (hex_of text).read
-  pub bytes : r.count ≤ length buffer → take r.count buffer ≡ (hex_of text).bytes
-  pub few : 2 * r.count ≤ length text
+pub record HexIs (text buffer : List ℕ) (r : Result ℕ HexError) : Type 0 where
+  pub whole : r ≡ counted (hex_of text)
+  pub bytes : (b : List ℕ) → hex_of text ≡ Ok b → length b ≤ length buffer → take (length b) buffer ≡ b
+  pub few : IfOk r (λ n. 2 * n ≤ length text)

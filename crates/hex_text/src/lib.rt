@@ -1,27 +1,17 @@
 // Reading bytes that are written as hexadecimal digits.
 #![tactic(auto)]
 
-ghost use Rattle.std.specs.Prelude.{◌≡◌, ◌<◌, set};
-ghost use Rattle.hex_text.specs.Hex.{past, skipped, wrong_at, HexIs};
+ghost use Rattle.std.specs.Prelude.{◌≡◌, ◌<◌, set, IfSome};
+ghost use Rattle.hex_text.specs.Hex.{past, skipped, HexIs};
 ghost use Rattle.hex_text.specs.Walk.{WorthIs, Put, finished_as};
 
-// What `read_hex` answers.
+// Why `read_hex` refuses; lines and columns are counted from 1.
 #[derive(Clone, Copy)]
-pub enum HexAnswer {
-    Accepted,
+pub enum HexError {
     // A character that is no digit.
-    WrongCharacter,
-    // The last digit has no other beside it.
-    OddDigits,
-}
-
-// The answer to a text, with the line, and for a wrong character the column, that it is about, counted from 1; and how many bytes there are.
-#[derive(Clone, Copy)]
-pub struct HexRead {
-    pub answer: HexAnswer,
-    pub line: u64,
-    pub column: u64,
-    pub count: usize,
+    WrongCharacter { line: u64, column: u64 },
+    // The last digit, on that line, has no other beside it.
+    OddDigits { line: u64 },
 }
 
 // Where the walk over the text stands: how many lines are before it, how many characters on its line, and whether a comment has begun there.
@@ -32,17 +22,16 @@ struct Place {
     comment: bool,
 }
 
-// The digits so far: the bytes that they make, the one that is left over, if one is, and the line of the last.
+// The digits so far: how many bytes they make, the one that is left over, if one is, and the line of the last.
 #[derive(Clone, Copy)]
 struct Digits {
     count: usize,
-    half: bool,
-    high: u8,
+    high: Option<u8>,
     last: u64,
 }
 
-// The bytes of a text, two digits each, put at the front of a buffer as far as it has room. Half the text's length is room enough.
-pub fn read_hex(text: &[u8], bytes: &mut [u8]) -> HexRead
+// The bytes of a text, two digits each, put at the front of a buffer as far as it has room, and how many there are. Half the text's length is room enough.
+pub fn read_hex(text: &[u8], bytes: &mut [u8]) -> Result<usize, HexError>
     ensures { HexIs text.now bytes.new result }
 {
     let mut place = Place {
@@ -52,22 +41,21 @@ pub fn read_hex(text: &[u8], bytes: &mut [u8]) -> HexRead
     };
     let mut digits = Digits {
         count: 0,
-        half: false,
-        high: 0,
+        high: None,
         last: 0,
     };
-    let mut i: usize = 0;
-    while i < text.len() {
-        let byte = text[i];
+    for &byte in text {
         if !is_skipped(place, byte) {
-            let digit = worth(byte);
-            if digit == 16 {
-                return wrong(place);
-            }
-            digits = put(digits, digit, place.line + 1, bytes);
+            let line = place.line + 1;
+            let Some(digit) = worth(byte) else {
+                return Err(HexError::WrongCharacter {
+                    line,
+                    column: place.column + 1,
+                });
+            };
+            digits = put(digits, digit, line, bytes);
         }
         place = past(place, byte);
-        i = i + 1;
     }
     finished(digits)
 }
@@ -76,10 +64,7 @@ pub fn read_hex(text: &[u8], bytes: &mut [u8]) -> HexRead
 fn is_skipped(place: Place, byte: u8) -> bool
     ensures { result ≡ skipped place byte }
 {
-    (byte == b'\n')
-        | place.comment
-        | (byte == b'#')
-        | ((byte == b' ') | (byte == b'\t') | (byte == b'\r'))
+    place.comment || matches!(byte, b'\n' | b'#' | b' ' | b'\t' | b'\r')
 }
 
 // The place behind a byte.
@@ -102,41 +87,39 @@ fn past(place: Place, byte: u8) -> Place
     }
 }
 
-// What a byte is worth as a digit; 16 where it is none.
-fn worth(byte: u8) -> u8
+// What a byte is worth as a digit; nothing where it is none.
+fn worth(byte: u8) -> Option<u8>
     ensures { WorthIs byte result }
 {
-    if (b'0' <= byte) & (byte <= b'9') {
-        byte - b'0'
-    } else if (b'a' <= byte) & (byte <= b'f') {
-        10 + (byte - b'a')
-    } else if (b'A' <= byte) & (byte <= b'F') {
-        10 + (byte - b'A')
-    } else {
-        16
+    match byte {
+        b'0'..=b'9' => Some(byte - b'0'),
+        b'a'..=b'f' => Some(10 + (byte - b'a')),
+        b'A'..=b'F' => Some(10 + (byte - b'A')),
+        _ => None,
     }
 }
 
 // One digit more, on a line.
 fn put(digits: Digits, digit: u8, line: u64, bytes: &mut [u8]) -> Digits
-    requires { (digits.count < 18446744073709551615) × (digits.high < 16) × (digit < 16) }
+    requires count { digits.count < 18446744073709551615 }
+    requires high { IfSome digits.high (λ high. high < 16) }
+    requires digit { digit < 16 }
     ensures { Put digits digit line bytes.old bytes.new result }
 {
-    if digits.half {
-        store(bytes, digits.count, 16 * digits.high + digit);
-        Digits {
-            count: digits.count + 1,
-            half: false,
-            high: 0,
-            last: line,
+    match digits.high {
+        Some(high) => {
+            store(bytes, digits.count, 16 * high + digit);
+            Digits {
+                count: digits.count + 1,
+                high: None,
+                last: line,
+            }
         }
-    } else {
-        Digits {
+        None => Digits {
             count: digits.count,
-            half: true,
-            high: digit,
+            high: Some(digit),
             last: line,
-        }
+        },
     }
 }
 
@@ -149,36 +132,12 @@ fn store(bytes: &mut [u8], at: usize, byte: u8)
     }
 }
 
-// The answer to a wrong character.
-fn wrong(place: Place) -> HexRead
-    requires { (place.line < 18446744073709551615) × (place.column < 18446744073709551615) }
-    ensures { result ≡ (wrong_at place).read }
-{
-    HexRead {
-        answer: HexAnswer::WrongCharacter,
-        line: place.line + 1,
-        column: place.column + 1,
-        count: 0,
-    }
-}
-
 // The answer behind the last digit.
-fn finished(digits: Digits) -> HexRead
+fn finished(digits: Digits) -> Result<usize, HexError>
     ensures { result ≡ finished_as digits }
 {
-    if digits.half {
-        HexRead {
-            answer: HexAnswer::OddDigits,
-            line: digits.last,
-            column: 0,
-            count: 0,
-        }
-    } else {
-        HexRead {
-            answer: HexAnswer::Accepted,
-            line: 0,
-            column: 0,
-            count: digits.count,
-        }
+    match digits.high {
+        Some(_) => Err(HexError::OddDigits { line: digits.last }),
+        None => Ok(digits.count),
     }
 }

@@ -30,6 +30,22 @@ chosen_and_nan t (fin s m e) nan p = refl
 chosen_and_nan t a (inf s) p = absurd (false≢true p)
 chosen_and_nan t a (fin s m e) p = absurd (false≢true p)
 
+-- the two answers of the code, whose test holds of numbers alone
+pub takes_second : (t : Bool) (a b : Float) → (t ≡ true → is_nan b ≡ false) → (t ≡ true) ⊎ (is_nan a ≡ true) → b ≡ chosen_of t a b
+takes_second t a b n (inl e) = go (is_nan a)
+  where
+    go : (u : Bool) → b ≡ cond u b (cond (is_nan b) a (cond t b a))
+    go true = refl
+    go false = rw (n e, e)
+takes_second t a b n (inr p) = rw p
+
+pub takes_first : (t : Bool) (a b : Float) → t ≡ false → is_nan a ≡ false → a ≡ chosen_of t a b
+takes_first t a b e p = rw (p, e) (go (is_nan b))
+  where
+    go : (v : Bool) → a ≡ cond v a a
+    go true = refl
+    go false = refl
+
 -- an order in which the test takes the second where it stands before the first, and the first where not
 module _ (R : Float → Float → Type 0) (t : Bool) (a b : Float) where
   chosen_first : is_nan a ≡ false → R a a → (t ≡ true → R b a) → R (chosen_of t a b) a

@@ -1,11 +1,12 @@
 -- Laws of the ladder: the two ways to be on it, and the rate that no ladder passes.
-use mathlib.Core.Path.{◌≡◌, refl, sym, subst}
-use mathlib.Core.Bool.{Bool, true, false, ◌||◌}
-use mathlib.Core.List.{List}
+use mathlib.Core.Path.{◌≡◌, refl, sym, ap₂, ◌∙◌, subst}
+use mathlib.Core.Bool.{Bool, true, false, ◌||◌, false≢true}
+use mathlib.Core.List.{List, [], ◌∷◌}
 use Prim.Native.Nat.{ℕ, ◌≤◌}
 use native.Mathlib.Omega.{arith}
-use lib.Dec.{T, leb, leb→le}
-use borrow.Author.Tests.{eqb-true}
+use lib.Dec.{T, leb, leb→le, eqb}
+use Rattle.std.specs.List.{list_any}
+use borrow.Author.Tests.{eqb-true, eq-eqb, ne_eqb}
 use Rattle.tables.specs.Search.{one_of}
 use Rattle.tables.proofs.Rule.{all}
 use Rattle.tables.proofs.Keys.{of_member}
@@ -21,6 +22,19 @@ module _ (h : FrameHeader) where
   pub by_flag : free_format h ≡ false → (lsf : Bool) → h.lsf ≡ lsf → on_ladder h ≡ one_of (bit_rates (ladder_of lsf)) h.bit_rate
   unfolding on_ladder
   by_flag f lsf l = rw (f, l)
+
+eqb_sym : (a b : ℕ) → eqb a b ≡ eqb b a
+eqb_sym a b = go (eqb a b) refl
+  where
+    go : (t : Bool) → eqb a b ≡ t → t ≡ eqb b a
+    go true e = sym (eq-eqb b a (sym (eqb-true a b e)))
+    go false e = sym (ne_eqb b a (λ q. false≢true (sym e ∙ eq-eqb a b (sym q))))
+
+-- what `contains` tests of each rate
+pub listed_rate : (rates : List ℕ) (n : ℕ) → list_any (λ r. eqb r n) rates ≡ one_of rates n
+unfolding one_of
+listed_rate [] n = refl
+listed_rate (r ∷ rates) n = ap₂ ◌||◌ (eqb_sym r n) (listed_rate rates n)
 
 -- 384 kbit/s is the highest of either ladder
 abbrev low : ℕ → Bool

@@ -1,17 +1,16 @@
 -- The laws of a layout's fields that callers go by: how many there are, that each is carried, and that each slot is served by one. Then what
 -- the functions answer.
+use Rattle.std.proofs.lemmas.Option.{none-some}
+use Rattle.std.specs.Prelude.{None, Some}
 use mathlib.Core.Path.{◌≡◌, sym, ap, ◌∙◌, subst}
 use mathlib.Core.Bool.{Bool, true, false}
 use mathlib.Core.Logic.{inr}
-use mathlib.Core.Option.{some, none-ne-some}
 use Prim.Native.Nat.{ℕ, ◌≤◌, ◌<◌}
 use lib.Dec.{T, eqb, lit<}
 use lib.ListN.{length, get_or-eq_default}
 use Rattle.tables.specs.Search.{one_of}
 use Rattle.bitalloc.specs.declared.BitAllocTable.{BitAllocTable}
 use Rattle.bitalloc.specs.declared.BitAllocTable.TheVariants.{B2a, B2b, B2c, B2d, B1Lsf}
-use Rattle.bitalloc.specs.declared.OptionU32.TheVariants.{Some, None}
-use Rattle.bitalloc.specs.Options.{number_in}
 use Rattle.bitalloc.specs.Tables.{sblimit_of}
 use Rattle.bitalloc.proofs.RowLaws.{sblimit_small}
 use Rattle.layout.specs.declared.Layout.{Layout}
@@ -57,10 +56,10 @@ module _ (l : Layout) where
       pub channel_small : ch < 2
       channel_small = back.2
 
-      pub served_once : served_by l ch (field_in (fields_of l) f).subband ≡ some f
+      pub served_once : served_by l ch (field_in (fields_of l) f).subband ≡ Some f
       unfolding fields_of
       served_once =
-          by_number one l (limit_of l) ch (field_in (fields_of l) f).subband (fields_numbered l (limit_of l)) back.0 ∙ ap some back.1
+          by_number one l (limit_of l) ch (field_in (fields_of l) f).subband (fields_numbered l (limit_of l)) back.0 ∙ ap Some back.1
 
   -- ---- what the functions answer
 
@@ -92,7 +91,7 @@ module _ (l : Layout) where
   pub serving_is : (ch sb f : ℕ) → Carried one (limit_of l) ch sb → f ≡ serving one l.bound ch sb → f < 60 → ServingIs l ch sb (Some f)
   unfolding fields_of
   serving_is ch sb f c e h = record {
-    whole = ap some e ∙ sym (by_number one l (limit_of l) ch sb (fields_numbered l (limit_of l)) c);
+    whole = ap Some e ∙ sym (by_number one l (limit_of l) ch sb (fields_numbered l (limit_of l)) c);
     below = λ g p. subst (λ (n : ℕ). n < 60) (held p) h;
   }
     where
@@ -103,7 +102,7 @@ module _ (l : Layout) where
   unfolding fields_of
   none_serves ch sb o = record {
     whole = sym (by_none one l (limit_of l) ch sb (fields_numbered l (limit_of l)) o);
-    below = λ g p. absurd (none-ne-some g (ap number_in p));
+    below = λ g p. absurd (none-some g p);
   }
 
   -- above the limit, with one channel and with two

@@ -1,4 +1,3 @@
-pub mod SlotLaws
 pub mod NumberLaws
 pub mod FieldLaws
 pub mod ServedLaws

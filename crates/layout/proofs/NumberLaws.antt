@@ -1,9 +1,9 @@
 -- The fields and the slots of a layout by their number: what the code computes where the definitions have a list.
+use Rattle.std.specs.Prelude.{None, Some}
 use mathlib.Core.Path.{◌≡◌, refl, sym, ap, ◌∙◌, subst}
 use mathlib.Core.Bool.{Bool, true, false, cond, and-false, ◌||◌}
 use mathlib.Core.Logic.{◌⊎◌, inl, inr, ⊎_elim}
 use mathlib.Core.List.{[], ◌∷◌}
-use mathlib.Core.Option.{none, some}
 use Prim.Native.Nat.{ℕ, zero, suc, ◌+◌, ◌-◌, ◌*◌, ◌/◌, ◌%◌, min, ◌≤◌, ◌<◌}
 use native.Mathlib.Nat.{not-suc-le-zero, lt_trans}
 use native.Mathlib.Decide.{dec_lt, ℕ_discrete}
@@ -216,7 +216,7 @@ Outside true n ch sb = (1 ≤ ch) ⊎ (n ≤ sb)
 Outside false n ch sb = (2 ≤ ch) ⊎ (n ≤ sb)
 
 pub by_number : (one : Bool) (l : Layout) (n ch sb : ℕ) → Numbered one l n → Carried one n ch sb
-    → place (serves ch sb) (fields_below l n) ≡ some (serving one l.bound ch sb)
+    → place (serves ch sb) (fields_below l n) ≡ Some (serving one l.bound ch sb)
 unfolding Carried
 by_number true l n ch sb ns (z, h) =
     place_found (serves ch sb) (fields_below l n) sb _ (rw ns.many h)
@@ -237,7 +237,7 @@ by_number false l n ch sb ns (c, h) =
     within : serving false bound ch sb < n + min n bound
     within = go (dec_lt sb bound)
 
-pub by_none : (one : Bool) (l : Layout) (n ch sb : ℕ) → Numbered one l n → Outside one n ch sb → place (serves ch sb) (fields_below l n) ≡ none
+pub by_none : (one : Bool) (l : Layout) (n ch sb : ℕ) → Numbered one l n → Outside one n ch sb → place (serves ch sb) (fields_below l n) ≡ None
 unfolding Outside
 by_none true l n ch sb ns o =
     place_missing (serves ch sb) (fields_below l n) _

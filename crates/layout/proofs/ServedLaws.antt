@@ -1,9 +1,8 @@
 -- A slot is one of the layout's exactly where a field serves it.
+use Rattle.std.specs.Prelude.{Option, None, Some, option_map, is_some}
 use mathlib.Core.Path.{◌≡◌, refl, sym, ap, ap₂, ◌∙◌}
 use mathlib.Core.Bool.{Bool, true, false, cond, ◌&&◌, ◌||◌, and-false, or_assoc, and-or_distrib_left}
 use mathlib.Core.List.{List, [], ◌∷◌, ◌++◌, map}
-use mathlib.Core.Option
-use mathlib.Core.Option.{Option, none, some}
 use Prim.Native.Nat.{ℕ, suc, ◌<◌, suc-le-suc}
 use native.Mathlib.Nat.{zero-lt-suc}
 use native.Mathlib.Omega.{arith}
@@ -11,7 +10,6 @@ use lib.Dec.{eqb}
 use lib.ListN.{length, get_or}
 use borrow.Author.Tests.{eqb-true, eqb-false, eq-eqb, ne_eqb}
 use Rattle.tables.specs.Search.{place, one_of}
-use Rattle.bitalloc.specs.Options.{is_some}
 use Rattle.bitalloc.proofs.RowLaws.{sblimit_small}
 use Rattle.layout.specs.declared.Layout.{Layout}
 use Rattle.layout.specs.declared.AllocationField.{AllocationField}
@@ -26,10 +24,10 @@ unfolding one_of
 in_either [] js k = refl
 in_either (i ∷ is) js k = ap (λ (b : Bool). eqb k i || b) (in_either is js k) ∙ sym (or_assoc (eqb k i) (one_of is k) (one_of js k))
 
-some_or : (b : Bool) (o : Option ℕ) → is_some (cond b (some 0) (Option.map suc o)) ≡ (b || is_some o)
+some_or : (b : Bool) (o : Option ℕ) → is_some (cond b (Some 0) (option_map suc o)) ≡ (b || is_some o)
 some_or true o = refl
-some_or false none = refl
-some_or false (some n) = refl
+some_or false None = refl
+some_or false (Some n) = refl
 
 -- ---- a slot has one subband and one channel
 

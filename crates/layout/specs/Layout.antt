@@ -1,17 +1,13 @@
 -- The layout of a frame's side information, in the order of ISO/IEC 11172-3 2.4.1.6: by rising subband, channel 0 first.
 -- An allocation field holds the bit allocation of a subband. Below the bound each channel has a field of its own; from the bound up one field
 -- serves both channels, which share their samples (intensity stereo).
-use Rattle.std.specs.Prelude.{ℕ, zero, suc, ◌+◌, min, ◌≤◌, ◌<◌, ◌≡◌, Bool, true, false, cond, ◌&&◌, List, [], ◌∷◌, ◌++◌, map, eqb, ltb, length, get_or}
-use Rattle.std.proofs.Math.Option.{Option}
+use Rattle.std.specs.Prelude.{ℕ, zero, suc, ◌+◌, min, ◌≤◌, ◌<◌, ◌≡◌, Bool, true, false, cond, ◌&&◌, List, [], ◌∷◌, ◌++◌, map, eqb, ltb, length, get_or, Option, Some}
 use Rattle.tables.specs.Search.{place, one_of}
 use Rattle.header.specs.declared.FrameHeader.{FrameHeader}
 use Rattle.header.specs.declared.Mode.{Mode}
 use Rattle.header.specs.declared.Mode.TheVariants.{Stereo, JointStereo, DualChannel, SingleChannel}
 use Rattle.header.specs.Header.{channels_of, bound_of}
 use Rattle.bitalloc.specs.declared.BitAllocTable.{BitAllocTable}
-use Rattle.bitalloc.specs.declared.OptionU32.{OptionU32}
-use Rattle.bitalloc.specs.declared.OptionU32.TheVariants.{Some}
-use Rattle.bitalloc.specs.Options.{number_in}
 use Rattle.bitalloc.specs.Tables.{sblimit_of}
 use Rattle.layout.specs.declared.Layout.{Layout}
 use Rattle.layout.specs.declared.AllocationField.{AllocationField}
@@ -119,8 +115,8 @@ pub record FieldIs (l : Layout) (number : ℕ) (r : AllocationField) : Type 0 wh
   pub carried : r.subband < limit_of l
   pub channel : r.channel < 2
 
-pub record ServingIs (l : Layout) (ch sb : ℕ) (r : OptionU32) : Type 0 where
-  pub whole : number_in r ≡ served_by l ch sb
+pub record ServingIs (l : Layout) (ch sb : ℕ) (r : Option ℕ) : Type 0 where
+  pub whole : r ≡ served_by l ch sb
   pub below : (f : ℕ) → r ≡ Some f → f < 60
 
 pub record SlotsAre (l : Layout) (r : ℕ) : Type 0 where

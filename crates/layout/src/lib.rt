@@ -5,7 +5,7 @@ ghost use Rattle.std.specs.Prelude.{◌≡◌};
 ghost use Rattle.header.specs.Header.{bound_of};
 ghost use Rattle.layout.specs.Layout.{own, shared_from, layout_of, ChannelCountIs, FieldsAre, FieldIs, ServingIs, SlotsAre, SlotIs};
 
-use bitalloc::{BitAllocTable, OptionU32};
+use bitalloc::BitAllocTable;
 use header::{FrameHeader, Mode};
 
 pub mod slots;
@@ -88,27 +88,27 @@ impl Layout {
     }
 
     // The number of the field that serves a slot; none where the layout does not carry the slot.
-    pub fn field_serving(self, channel: usize, subband: usize) -> OptionU32
+    pub fn field_serving(self, channel: usize, subband: usize) -> Option<u32>
         ensures { ServingIs self channel subband result }
     {
         let table = self.table;
         let sblimit = table.sblimit();
         if sblimit <= subband {
-            return OptionU32::None;
+            return None;
         }
         if self.channels == 1 {
             if channel == 0 {
-                return OptionU32::Some(subband as u32);
+                return Some(subband as u32);
             }
-            return OptionU32::None;
+            return None;
         }
         if 2 <= channel {
-            return OptionU32::None;
+            return None;
         }
         if subband < self.bound {
-            OptionU32::Some((2 * subband + channel) as u32)
+            Some((2 * subband + channel) as u32)
         } else {
-            OptionU32::Some((subband + self.bound) as u32)
+            Some((subband + self.bound) as u32)
         }
     }
 
@@ -155,15 +155,8 @@ fn own(subband: usize, channel: usize) -> AllocationField
 fn shared_from(header: FrameHeader, sblimit: usize) -> usize
     ensures { result ≡ shared_from header.mode (bound_of header.mode_extension) sblimit }
 {
-    let mode = header.mode;
-    match mode {
-        Mode::Stereo => sblimit,
-        Mode::JointStereo => {
-            let extension = header.mode_extension;
-            let bound = extension.bound();
-            if bound < sblimit { bound } else { sblimit }
-        }
-        Mode::DualChannel => sblimit,
-        Mode::SingleChannel => sblimit,
+    match header.mode {
+        Mode::JointStereo => header.mode_extension.bound().min(sblimit),
+        Mode::Stereo | Mode::DualChannel | Mode::SingleChannel => sblimit,
     }
 }

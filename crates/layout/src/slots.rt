@@ -3,13 +3,13 @@ ghost use Rattle.std.specs.Prelude.{◌≡◌, ◌<◌, get_or};
 ghost use Rattle.std.specs.Float.{nan};
 ghost use Rattle.layout.specs.Slots.{smr_row, smr_rows};
 
+use std::array;
+
 // The ratios by channel and subband; a NaN where the slice is too short.
 pub fn rows(by_slot: &[f64]) -> [[f64; 32]; 2]
     ensures { result ≡ smr_rows by_slot.now }
 {
-    let first = row(by_slot, 0);
-    let second = row(by_slot, 1);
-    [first, second]
+    [row(by_slot, 0), row(by_slot, 1)]
 }
 
 // The ratios of one channel, by subband.
@@ -17,22 +17,12 @@ fn row(by_slot: &[f64], channel: usize) -> [f64; 32]
     requires { channel < 2 }
     ensures { result ≡ smr_row by_slot.now channel }
 {
-    let mut ratios = [0.0; 32];
-    let mut sb: usize = 0;
-    while sb < 32 {
-        ratios[sb] = smr_at(by_slot, 32 * channel + sb);
-        sb = sb + 1;
-    }
-    ratios
+    array::from_fn(|sb| smr_at(by_slot, 32 * channel + sb))
 }
 
 // The ratio of one slot.
 fn smr_at(by_slot: &[f64], slot: usize) -> f64
     ensures { result ≡ get_or by_slot.now slot nan }
 {
-    if slot < by_slot.len() {
-        by_slot[slot]
-    } else {
-        0.0 / 0.0
-    }
+    by_slot.get(slot).copied().unwrap_or(f64::NAN)
 }

@@ -1,4 +1,4 @@
-// The planner, run on a frame in joint stereo.
+// The planner, run on a frame in joint stereo. A program of its own, since a program is run on one command line and one input.
 #![tactic(auto)]
 
 use std::io;

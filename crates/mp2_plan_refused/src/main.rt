@@ -1,4 +1,4 @@
-// The planner, run on a frame that no allocation table covers.
+// The planner, run on a frame that no allocation table covers. A program of its own, since a program is run on one command line and one input.
 #![tactic(auto)]
 
 use std::io;

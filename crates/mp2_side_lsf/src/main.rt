@@ -1,4 +1,4 @@
-// The same, run on a frame of one channel at a low sampling frequency.
+// The same, run on a frame of one channel at a low sampling frequency. A program of its own, since a program is run on one command line and one input.
 #![tactic(auto)]
 
 use std::io;

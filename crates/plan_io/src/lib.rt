@@ -1,15 +1,28 @@
 // The planner's reading and writing: the words of the command line, the ratios from standard input, the answer to standard output.
 #![tactic(auto)]
 
-ghost use Rattle.std.specs.Prelude.{◌≡◌, [], ◌+◌, ltb, length, get_or, take, drop, IsOk, OnOk};
+ghost use Rattle.std.specs.Prelude.{◌≡◌, take, IsOk, OnOk};
 ghost use Rattle.std.specs.Io.KnownBytes.{Appends};
-ghost use Rattle.text_line.specs.Line.{fed};
+ghost use Rattle.text_line.specs.Page.{LineAt};
 ghost use Rattle.planner.specs.Planner.{plan_of};
 ghost use Rattle.word_io.specs.Written.{lines_in, page_text, Written};
 
 use std::env::Env;
 use std::io;
 use std::io::Write;
+use text_line::Line;
+use word_io::Answer;
+
+struct Planner;
+
+impl Answer for Planner {
+    ghost page = { plan_of };
+
+    fn line(&self, words: &[u8], input: &[u8], n: usize) -> Option<Line> {
+        let plan = planner::plan_line(words, input, n);
+        if plan.there { Some(plan.line) } else { None }
+    }
+}
 
 // Reads, plans and writes, and answers how many lines the answer has. Where reading or writing fails it goes on, and `outcome` is
 // the last error.
@@ -17,19 +30,10 @@ pub fn run<R: Env + Input + Print>(rt: &R, outcome: &mut io::Result<()>) -> usiz
     ensures written { Written plan_of result }
     ensures kept { OnOk outcome.new (IsOk outcome.old) }
 {
-    let mut words = [0u8; 4096];
-    let size = word_io::read_words(rt, word_io::word_count(rt), &mut words);
-    let mut input = [0u8; 65_536];
-    let count = word_io::read_input(rt, &words[..size], &mut input, outcome);
-    write_plan(
-        &words[..size],
-        &input[..count],
-        &mut io::writer(rt),
-        outcome,
-    )
+    word_io::run(&Planner, rt, outcome)
 }
 
-// Writes the answer line by line, and answers how many there were. A proved loop has to end: lines are counted as far as 64 bits count.
+// Writes the answer line by line, and answers how many there were, as far as 64 bits count.
 // Where no write failed, what was written is the answer's text.
 pub fn write_plan<W: Write>(
     words: &[u8],
@@ -42,55 +46,5 @@ pub fn write_plan<W: Write>(
     ensures text { OnOk outcome.new (Appends (W.contents out.old) (W.contents out.new)
         (page_text (take result (plan_of words.now input.now)))) }
 {
-    let mut n: usize = 0;
-    while n < usize::MAX {
-        let there = write_line(words, input, n, out, outcome);
-        if there {
-            n = n + 1;
-        } else {
-            return n;
-        }
-    }
-    n
-}
-
-// Writes the line of a number, and answers whether there was one.
-fn write_line<W: Write>(
-    words: &[u8],
-    input: &[u8],
-    n: usize,
-    out: &mut W,
-    outcome: &mut io::Result<()>,
-) -> bool
-    ensures there { result ≡ ltb n (length (plan_of words.now input.now)) }
-    ensures kept { OnOk outcome.new (IsOk outcome.old) }
-    ensures text { OnOk outcome.new (Appends (W.contents out.old) (W.contents out.new)
-        (page_text (take 1 (drop n (plan_of words.now input.now))))) }
-{
-    let plan = planner::plan_line(words, input, n);
-    if plan.there {
-        let line = plan.line;
-        let ended = line.ended();
-        let bytes = ended.bytes;
-        let size = ended.size;
-        if let Err(e) = write_text(words, input, n, &bytes[..size], out) {
-            *outcome = Err(e);
-        }
-    }
-    plan.there
-}
-
-// Hands a text to the writer: the line of a number of the answer to the words and the input, which are there for the `requires` alone.
-// Fails where not all of it was taken.
-fn write_text<W: Write>(
-    words: &[u8],
-    input: &[u8],
-    n: usize,
-    text: &[u8],
-    out: &mut W,
-) -> io::Result<()>
-    requires { text.now ≡ fed (get_or (plan_of words.now input.now) n []) }
-    ensures { OnOk result (Appends (W.contents out.old) (W.contents out.new) text.now) }
-{
-    out.write_all(text)
+    word_io::write_answer(&Planner, words, input, out, outcome)
 }

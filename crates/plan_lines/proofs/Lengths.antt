@@ -1,7 +1,7 @@
 -- No line is longer than what a line holds.
+use Rattle.std.specs.Prelude.{Option, None, Some, option_map}
 use mathlib.Core.Bool.{Bool, true, false, cond}
 use mathlib.Core.List.{List, [], ◌∷◌, ◌++◌}
-use mathlib.Core.Option.{Option, none, some, map}
 use Prim.Native.Nat.{ℕ, suc, ◌+◌, ◌-◌, ◌/◌, ◌≤◌}
 use native.Mathlib.Omega.{arith}
 use lib.Dec.{leb, eqb, lit≤}
@@ -18,7 +18,9 @@ use Rattle.text_line.specs.Line.{aligned}
 use Rattle.text_line.specs.Number.{digits_of, number_text}
 use Rattle.text_line.proofs.LineLaws.{column_length}
 use Rattle.text_line.proofs.NumberLaws.{few_digits}
-use Rattle.plan_lines.specs.Lines.{table_text, limits_text, frame_line, free_line, bits_line, balance_text, demand_line}
+use Rattle.plan_lines.specs.declared.lines.Label.{Label}
+use Rattle.plan_lines.specs.declared.lines.Label.TheVariants.{Fixed, Offered, Demand, Charged, Left, Used}
+use Rattle.plan_lines.specs.Lines.{label_text, table_text, limits_text, frame_line, free_line, bits_line, balance_text, demand_line}
 use Rattle.plan_lines.specs.Refusal.{off_ladder_text, no_table_text, too_small_text, advice_text, sentences, said, reason_text, refusal_line}
 
 number : (n : ℕ) → length (number_text n) ≤ 20
@@ -49,6 +51,14 @@ bits label n h = simp length-append (omega (arith, in_column 6 n))
 
 pub bits_length : (label : List ℕ) (n : ℕ) → length label ≤ 8 → length (bits_line label n) ≤ 256
 bits_length label n h = omega (arith, bits label n h)
+
+pub label_length : (l : Label) → length (label_text l) ≤ 8
+label_length Fixed = omega arith
+label_length Offered = omega arith
+label_length Demand = omega arith
+label_length Charged = omega arith
+label_length Left = omega arith
+label_length Used = omega arith
 
 balance : (demand offered : ℕ) → length (balance_text demand offered) ≤ 36
 unfolding balance_text
@@ -85,10 +95,10 @@ found f [] s = omega arith
 found f (x ∷ xs) s = go (f x) (place f xs) (found f xs s.1)
   where
     go : (b : Bool) (p : Option ℕ) → length (said (entry_at xs p)) ≤ 226
-        → length (said (entry_at (x ∷ xs) (cond b (some 0) (map suc p)))) ≤ 226
+        → length (said (entry_at (x ∷ xs) (cond b (Some 0) (option_map suc p)))) ≤ 226
     go true p h = s.0
-    go false none h = h
-    go false (some i) h = h
+    go false None h = h
+    go false (Some i) h = h
 
 reason : (h : FrameHeader) (n cb fixed banc : ℕ) → length (reason_text h n cb fixed banc) ≤ 226
 unfolding Short no_table_text too_small_text

@@ -3,6 +3,8 @@ use Rattle.std.specs.Prelude.{ℕ, ◌-◌, ◌/◌, cond, List, ◌++◌, leb}
 use Rattle.bitalloc.specs.declared.BitAllocTable.{BitAllocTable}
 use Rattle.bitalloc.specs.declared.BitAllocTable.TheVariants.{B2a, B2b, B2c, B2d, B1Lsf}
 use Rattle.encoder_bit_budget.specs.declared.FixedBitBudget.{FixedBitBudget}
+use Rattle.plan_lines.specs.declared.lines.Label.{Label}
+use Rattle.plan_lines.specs.declared.lines.Label.TheVariants.{Fixed, Offered, Demand, Charged, Left, Used}
 use Rattle.plan_text.specs.Quoted.{text}
 use Rattle.text_line.specs.Line.{aligned}
 use Rattle.text_line.specs.Number.{number_text}
@@ -26,6 +28,15 @@ frame_line b =
 -- in free format the header does not tell the frame's size
 unfoldable pub free_line : FixedBitBudget → List ℕ
 free_line b = text "frame   free format, table " ++ table_text b.table ++ limits_text b.sblimit b.bound
+
+-- eight characters
+abbrev pub label_text : Label → List ℕ
+label_text Fixed = text "fixed   "
+label_text Offered = text "offered "
+label_text Demand = text "demand  "
+label_text Charged = text "charged "
+label_text Left = text "left    "
+label_text Used = text "used    "
 
 -- a number of bits behind a label of eight characters
 unfoldable pub bits_line : List ℕ → ℕ → List ℕ

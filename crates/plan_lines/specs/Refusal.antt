@@ -1,6 +1,5 @@
 -- The line of a request that is refused: the answer's number, and what to change.
-use Rattle.std.specs.Prelude.{ℕ, Bool, cond, List, [], ◌∷◌, ◌++◌, eqb}
-use Rattle.std.proofs.Math.Option.{Option, none, some}
+use Rattle.std.specs.Prelude.{ℕ, Bool, cond, List, [], ◌∷◌, ◌++◌, eqb, Option, None, Some}
 use Rattle.tables.specs.Search.{find}
 use Rattle.header.specs.declared.FrameHeader.{FrameHeader}
 use Rattle.header.specs.Header.{free_format}
@@ -62,8 +61,8 @@ other_text = text "what this number says stands in docs/ANSWERS.md."
 
 -- the sentence found, and `other_text` where none is
 abbrev pub said : Option (ℕ × List ℕ) → List ℕ
-said none = other_text
-said (some x) = x.1
+said None = other_text
+said (Some x) = x.1
 
 abbrev pub reason_text : FrameHeader → ℕ → ℕ → ℕ → ℕ → List ℕ
 reason_text h number cb fixed banc = said (find (λ x. eqb number x.0) (sentences h cb fixed banc))

@@ -4,7 +4,7 @@ ghost use Rattle.encoder_bit_budget.specs.Budget.{no_budget};
 ghost use Rattle.plan_lines.specs.Held.{BudgetHeld};
 
 use bitalloc::BitAllocTable;
-use encoder_bit_budget::{Budget, FixedBitBudget, Request};
+use encoder_bit_budget::{FixedBitBudget, Request};
 
 // The budget of a request, or the filler where it has none.
 pub fn budget_held(request: Request) -> FixedBitBudget
@@ -12,8 +12,8 @@ pub fn budget_held(request: Request) -> FixedBitBudget
 {
     let budget = request.budget();
     match budget {
-        Budget::Ok(b) => b,
-        Budget::Refused(_) => no_budget(),
+        Ok(b) => b,
+        Err(_) => no_budget(),
     }
 }
 

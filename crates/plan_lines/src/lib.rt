@@ -6,8 +6,5 @@ mod lines;
 mod refusal;
 
 pub use budget::budget_held;
-pub use lines::{
-    charged_line, demand_line, fixed_line, frame_line, free_line, left_line, offered_line,
-    used_line,
-};
-pub use refusal::refusal_line;
+pub use lines::{Label, bits_line, demand_line, frame_line, free_line};
+pub use refusal::{Refusal, refusal_line};

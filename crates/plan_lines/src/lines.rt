@@ -1,8 +1,7 @@
 // The lines above and below the rows.
-ghost use Rattle.std.specs.Prelude.{◌≡◌, ◌++◌, ◌≤◌, length};
-ghost use Rattle.plan_text.specs.Quoted.{text};
+ghost use Rattle.std.specs.Prelude.{◌≡◌, ◌++◌};
 ghost use Rattle.text_line.specs.Line.{text_of, cut};
-ghost use Rattle.plan_lines.specs.Lines.{table_text, limits_text, frame_line, free_line, bits_line, balance_text, demand_line};
+ghost use Rattle.plan_lines.specs.Lines.{table_text, limits_text, frame_line, free_line, label_text, bits_line, balance_text, demand_line};
 
 use bitalloc::BitAllocTable;
 use encoder_bit_budget::FixedBitBudget;
@@ -11,33 +10,33 @@ use text_line::Line;
 pub fn frame_line(b: FixedBitBudget) -> Line
     ensures { text_of result ≡ frame_line b }
 {
-    let bytes = (b.cb / 8) as u64;
     let line = Line::new()
         .text(b"frame   ")
-        .number_in(6, bytes)
-        .text(b" bytes, table ");
-    let table = b.table;
-    limits(table_name(line, table), b.sblimit, b.bound)
+        .number_in(6, (b.cb / 8) as u64)
+        .text(b" bytes, table ")
+        .text(table_name(b.table));
+    limits(line, b.sblimit, b.bound)
 }
 
 // In free format, where the header does not tell the frame's size.
 pub fn free_line(b: FixedBitBudget) -> Line
     ensures { text_of result ≡ free_line b }
 {
-    let line = Line::new().text(b"frame   free format, table ");
-    let table = b.table;
-    limits(table_name(line, table), b.sblimit, b.bound)
+    let line = Line::new()
+        .text(b"frame   free format, table ")
+        .text(table_name(b.table));
+    limits(line, b.sblimit, b.bound)
 }
 
-fn table_name(line: Line, table: BitAllocTable) -> Line
-    ensures { text_of result ≡ cut (text_of line ++ table_text table) }
+fn table_name(table: BitAllocTable) -> &'static [u8]
+    ensures { result.now ≡ table_text table }
 {
     match table {
-        BitAllocTable::B2a => line.text(b"B2a"),
-        BitAllocTable::B2b => line.text(b"B2b"),
-        BitAllocTable::B2c => line.text(b"B2c"),
-        BitAllocTable::B2d => line.text(b"B2d"),
-        BitAllocTable::B1Lsf => line.text(b"B1"),
+        BitAllocTable::B2a => b"B2a",
+        BitAllocTable::B2b => b"B2b",
+        BitAllocTable::B2c => b"B2c",
+        BitAllocTable::B2d => b"B2d",
+        BitAllocTable::B1Lsf => b"B1",
     }
 }
 
@@ -50,53 +49,47 @@ fn limits(line: Line, sblimit: usize, bound: usize) -> Line
         .number(bound as u64)
 }
 
-// A number of bits behind a label.
-fn bits_line(label: &[u8], n: u64) -> Line
-    requires { length label.now ≤ 8 }
-    ensures { text_of result ≡ bits_line label.now n }
-{
-    Line::new().text(label).number_in(6, n).text(b" bits")
+// What a number of bits is of: those that are fixed, those that are offered to scalefactors and samples, those that the signal asks for, those that
+// the allocation spends, those that it leaves, and those that a frame's side information takes.
+#[derive(Clone, Copy)]
+pub enum Label {
+    Fixed,
+    Offered,
+    Demand,
+    Charged,
+    Left,
+    Used,
 }
 
-// The bits that are fixed.
-pub fn fixed_line(n: u64) -> Line
-    ensures { text_of result ≡ bits_line (text "fixed   ") n }
-{
-    bits_line(b"fixed   ", n)
+impl Label {
+    fn bytes(self) -> &'static [u8]
+        ensures { result.now ≡ label_text self }
+    {
+        match self {
+            Label::Fixed => b"fixed   ",
+            Label::Offered => b"offered ",
+            Label::Demand => b"demand  ",
+            Label::Charged => b"charged ",
+            Label::Left => b"left    ",
+            Label::Used => b"used    ",
+        }
+    }
 }
 
-// The bits that are offered to scalefactors and samples.
-pub fn offered_line(n: u64) -> Line
-    ensures { text_of result ≡ bits_line (text "offered ") n }
+// A number of bits behind its label.
+pub fn bits_line(label: Label, n: u64) -> Line
+    ensures { text_of result ≡ bits_line (label_text label) n }
 {
-    bits_line(b"offered ", n)
-}
-
-// The bits that the allocation spends.
-pub fn charged_line(n: u64) -> Line
-    ensures { text_of result ≡ bits_line (text "charged ") n }
-{
-    bits_line(b"charged ", n)
-}
-
-// The bits that it leaves.
-pub fn left_line(n: u64) -> Line
-    ensures { text_of result ≡ bits_line (text "left    ") n }
-{
-    bits_line(b"left    ", n)
-}
-
-// The bits that a frame's side information takes.
-pub fn used_line(n: u64) -> Line
-    ensures { text_of result ≡ bits_line (text "used    ") n }
-{
-    bits_line(b"used    ", n)
+    Line::new()
+        .text(label.bytes())
+        .number_in(6, n)
+        .text(b" bits")
 }
 
 pub fn demand_line(demand: u64, offered: u64) -> Line
     ensures { text_of result ≡ demand_line demand offered }
 {
-    balance(bits_line(b"demand  ", demand), demand, offered)
+    balance(bits_line(Label::Demand, demand), demand, offered)
 }
 
 fn balance(line: Line, demand: u64, offered: u64) -> Line

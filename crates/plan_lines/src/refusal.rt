@@ -1,31 +1,60 @@
 // The line of a request that is refused.
 ghost use Rattle.std.specs.Prelude.{◌≡◌, ◌++◌};
 ghost use Rattle.text_line.specs.Line.{text_of, cut};
-ghost use Rattle.plan_lines.specs.Refusal.{off_ladder_text, no_table_text, no_sample_rate_text, too_large_text, too_small_text, advice_text, other_text, reason_text, refusal_line};
+ghost use Rattle.plan_lines.specs.Held.{refusal_in};
+ghost use Rattle.plan_lines.specs.Refusal.{off_ladder_text, no_table_text, too_small_text, advice_text, reason_text, refusal_line};
 
+use encoder_bit_budget::BitAllocError;
 use header::FrameHeader;
 use text_line::Line;
 
-pub fn refusal_line(header: FrameHeader, number: u32, cb: u32, fixed: u32, banc: u32) -> Line
-    ensures { text_of result ≡ refusal_line header number cb fixed banc }
+// A refusal: its number, and of number 4 the bits of the frame, the fixed ones and the ancillary ones.
+#[derive(Clone, Copy)]
+pub struct Refusal {
+    pub number: u32,
+    pub cb: u32,
+    pub fixed: u32,
+    pub banc: u32,
+}
+
+// The refusal of an allocation.
+impl From<BitAllocError> for Refusal {
+    ghost from_gives = { λ error refusal. refusal ≡ refusal_in error };
+
+    fn from(error: BitAllocError) -> Refusal {
+        let (cb, fixed, banc) = match error {
+            BitAllocError::InsufficientFrameSize { cb, fixed, banc } => (cb, fixed, banc),
+            _ => (0, 0, 0),
+        };
+        Refusal {
+            number: error.number(),
+            cb,
+            fixed,
+            banc,
+        }
+    }
+}
+
+pub fn refusal_line(header: FrameHeader, refusal: Refusal) -> Line
+    ensures { text_of result ≡ refusal_line header refusal.number refusal.cb refusal.fixed refusal.banc }
 {
     let line = Line::new()
         .text(b"refused ")
-        .number(number as u64)
+        .number(refusal.number as u64)
         .text(b": ");
-    reason(line, header, number, cb, fixed, banc)
+    reason(line, header, refusal)
 }
 
-fn reason(line: Line, header: FrameHeader, number: u32, cb: u32, fixed: u32, banc: u32) -> Line
-    ensures { text_of result ≡ cut (text_of line ++ reason_text header number cb fixed banc) }
+fn reason(line: Line, header: FrameHeader, refusal: Refusal) -> Line
+    ensures { text_of result ≡ cut (text_of line ++ reason_text header refusal.number refusal.cb refusal.fixed refusal.banc) }
 {
-    match number {
+    match refusal.number {
         16 => off_ladder(line, header.lsf),
         1 => no_table(line),
-        2 => no_sample_rate(line),
-        3 => too_large(line),
-        4 => advice(too_small(line, cb, fixed, banc), header.is_free_format()),
-        _ => other(line),
+        2 => line.text(b"the sample rate is 0: say fs=24000 or another in Hz."),
+        3 => line.text(b"the frame is over 536870911 bytes: lower rate or raise fs."),
+        4 => advice(too_small(line, refusal), header.is_free_format()),
+        _ => line.text(b"what this number says stands in docs/ANSWERS.md."),
     }
 }
 
@@ -46,51 +75,30 @@ fn off_ladder(line: Line, lsf: bool) -> Line
 fn no_table(line: Line) -> Line
     ensures { text_of result ≡ cut (text_of line ++ no_table_text) }
 {
-    let asked = line.text(
-        b"no allocation table for this rate, mode and fs: at 32000, 44100 and 48000 Hz ",
-    );
-    asked.text(
-        b"give 32000, 48000, 56000, 64000, 80000, 96000, 112000, 128000, 160000 or 192000 bit/s for each channel; at 16000, 22050 and 24000 Hz say lsf=1.",
-    )
+    line.text(b"no allocation table for this rate, mode and fs: at 32000, 44100 and 48000 Hz ")
+        .text(
+            b"give 32000, 48000, 56000, 64000, 80000, 96000, 112000, 128000, 160000 or 192000 bit/s for each channel; at 16000, 22050 and 24000 Hz say lsf=1.",
+        )
 }
 
-fn no_sample_rate(line: Line) -> Line
-    ensures { text_of result ≡ cut (text_of line ++ no_sample_rate_text) }
+fn too_small(line: Line, refusal: Refusal) -> Line
+    ensures { text_of result ≡ cut (text_of line ++ too_small_text refusal.cb refusal.fixed refusal.banc) }
 {
-    line.text(b"the sample rate is 0: say fs=24000 or another in Hz.")
-}
-
-fn too_large(line: Line) -> Line
-    ensures { text_of result ≡ cut (text_of line ++ too_large_text) }
-{
-    line.text(b"the frame is over 536870911 bytes: lower rate or raise fs.")
-}
-
-fn too_small(line: Line, cb: u32, fixed: u32, banc: u32) -> Line
-    ensures { text_of result ≡ cut (text_of line ++ too_small_text cb fixed banc) }
-{
-    let has = line
-        .text(b"the frame has ")
-        .number(cb as u64)
+    line.text(b"the frame has ")
+        .number(refusal.cb as u64)
         .text(b" bits, but ")
-        .number(fixed as u64);
-    has.text(b" are fixed and ")
-        .number(banc as u64)
+        .number(refusal.fixed as u64)
+        .text(b" are fixed and ")
+        .number(refusal.banc as u64)
         .text(b" ancillary: ")
 }
 
 fn advice(line: Line, free: bool) -> Line
     ensures { text_of result ≡ cut (text_of line ++ advice_text free) }
 {
-    if free {
-        line.text(b"rate=0 is free format, whose frame size is not known here: give a rate.")
+    line.text(if free {
+        b"rate=0 is free format, whose frame size is not known here: give a rate."
     } else {
-        line.text(b"raise rate or lower ancillary.")
-    }
-}
-
-fn other(line: Line) -> Line
-    ensures { text_of result ≡ cut (text_of line ++ other_text) }
-{
-    line.text(b"what this number says stands in docs/ANSWERS.md.")
+        b"raise rate or lower ancillary."
+    })
 }

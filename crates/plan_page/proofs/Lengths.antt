@@ -44,7 +44,7 @@ unfolding slot_columns
 columns smr steps =
     simp length-append (omega (arith, decibels_in_column 10 smr, in_column 7 steps, decibels_in_column 10 (slot_mnr steps smr)))
 
-channels_small : (l : Layout) → channel_count l ≤ 2
+pub channels_small : (l : Layout) → channel_count l ≤ 2
 channels_small l = go (eqb l.channels 1)
   where
     go : (b : Bool) → cond b 1 2 ≤ 2

@@ -1,4 +1,5 @@
 -- Laws of the page: which line stands where.
+use Rattle.std.specs.Prelude.{is_some, Err}
 use mathlib.Core.Path.{◌≡◌, refl, sym, ap, ◌∙◌}
 use mathlib.Core.List.{List, [], ◌∷◌, ◌++◌}
 use Prim.Native.Nat.{ℕ, zero, suc, ◌+◌, ◌-◌, ◌≤◌, ◌<◌}
@@ -13,13 +14,15 @@ use Rattle.tables.specs.Search.{find}
 use Rattle.tables.proofs.Rule.{all}
 use Rattle.tables.proofs.Listed.{tabulated, length_tabulate}
 use Rattle.header.specs.declared.FrameHeader.{FrameHeader}
-use Rattle.bitalloc.specs.Options.{is_some}
 use Rattle.encoder_bit_budget.specs.declared.FixedBitBudget.{FixedBitBudget}
 use Rattle.encoder_bit_budget.specs.declared.Request.{Request}
 use Rattle.encoder_bit_budget.specs.Budget.{plain, header_asked, budget_of, layout_in, offered_in, offered_of, natural}
 use Rattle.encoder_bit_demand.specs.Demand.{demand_of}
-use Rattle.encoder_bit_allocator.specs.declared.Allocation.{Allocation}
-use Rattle.encoder_bit_allocator.specs.Allocation.{allocation_asked, allocation_of}
+use Rattle.encoder_bit_budget.specs.declared.BitAllocError.{BitAllocError}
+use Rattle.encoder_bit_budget.specs.declared.BitAllocError.TheVariants.{RateOffLadder, NoBitallocTable, ZeroSampleRate, InsufficientFrameSize}
+use Rattle.encoder_bit_allocator.specs.Allocation.{AllocationAnswer, answer_in, allocation_asked, allocation_of}
+use Rattle.plan_lines.specs.declared.refusal.Refusal.{Refusal}
+use Rattle.plan_lines.specs.Held.{refusal_in}
 use Rattle.plan_page.specs.Rows.{subband_line}
 use Rattle.plan_lines.specs.Refusal.{sentences, refusal_line}
 use Rattle.plan_page.specs.Page.{head_of, foot_of, accepted_page, page_by, page_of}
@@ -31,7 +34,7 @@ behind_last : (line : List ℕ) (n : ℕ) → (n ≡ 0 → ⊥) → [] ≡ get_o
 behind_last line zero a = absurd (a refl)
 behind_last line (suc n) a = refl
 
-module _ (h : FrameHeader) (smr : List (List Float)) (b : FixedBitBudget) (offered demand : ℕ) (a : Allocation) where
+module _ (h : FrameHeader) (smr : List (List Float)) (b : FixedBitBudget) (offered demand : ℕ) (a : AllocationAnswer) where
   opened_accepted : a.number ≡ 0 → page_by h smr b offered demand a ≡ accepted_page b offered demand a.audio.nb_steps a.left smr
   unfolding page_by
   opened_accepted z = rw (eq-eqb a.number 0 z)
@@ -40,7 +43,7 @@ module _ (h : FrameHeader) (smr : List (List Float)) (b : FixedBitBudget) (offer
   unfolding page_by
   opened_refused z = rw (ne_eqb a.number 0 z)
 
-module _ (h : FrameHeader) (banc : ℕ) (smr : List (List Float)) (a : Allocation) (e : a ≡ allocation_of (plain h banc) smr) where
+module _ (h : FrameHeader) (banc : ℕ) (smr : List (List Float)) (a : AllocationAnswer) (e : a ≡ allocation_of (plain h banc) smr) where
   abbrev q : Request
   q = plain h banc
 
@@ -70,6 +73,28 @@ module _ (h : FrameHeader) (banc : ℕ) (smr : List (List Float)) (a : Allocatio
 
   pub line_behind : (n : ℕ) (t : List ℕ) → (a.number ≡ 0 → ⊥) → (n ≡ 0 → ⊥) → t ≡ [] → t ≡ get_or (page_of h banc smr) n []
   line_behind n t z k e = e ∙ behind_last _ n k ∙ ap (λ (p : List (List ℕ)). get_or p n []) (sym (page_refused z))
+
+-- ---- a refused allocation
+
+pub refused_number : (e : BitAllocError) → (answer_in (Err e)).number ≡ 0 → ⊥
+refused_number RateOffLadder z = omega arith
+refused_number NoBitallocTable z = omega arith
+refused_number ZeroSampleRate z = omega arith
+refused_number (InsufficientFrameSize cb fixed banc) z = omega arith
+
+abbrev refusal_said : FrameHeader → AllocationAnswer → List ℕ
+refusal_said h a = refusal_line h a.number a.cb a.fixed a.banc
+
+pub refusal_told : (h : FrameHeader) (e : BitAllocError) (r : Refusal) → r ≡ refusal_in e
+    → refusal_line h r.number r.cb r.fixed r.banc ≡ refusal_said h (answer_in (Err e))
+refusal_told h e r p = ap (λ (r : Refusal). refusal_line h r.number r.cb r.fixed r.banc) p ∙ go e
+  where
+    go : (e : BitAllocError)
+        → refusal_line h (refusal_in e).number (refusal_in e).cb (refusal_in e).fixed (refusal_in e).banc ≡ refusal_said h (answer_in (Err e))
+    go RateOffLadder = refl
+    go NoBitallocTable = refl
+    go ZeroSampleRate = refl
+    go (InsufficientFrameSize cb fixed banc) = refl
 
 -- every number that the questions of an allocation give has its sentence
 pub each_has_one : (q : Request) (cb fixed banc : ℕ)

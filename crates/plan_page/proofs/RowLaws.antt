@@ -21,14 +21,8 @@ use Rattle.plan_page.specs.Charged.{BitsInAre}
 
 -- ---- the columns of one channel after the other
 
-pub no_columns : {l : List ℕ} (t : List ℕ) → l ≡ cut t → l ≡ cut (t ++ [])
-no_columns t e = e ∙ ap cut (sym (append-nil t))
-
 pub one_more : {l r : List ℕ} (t : List ℕ) (f : ℕ → List ℕ) (ch : ℕ) → l ≡ cut (t ++ joined f ch) → r ≡ cut (l ++ f ch) → r ≡ cut (t ++ joined f (ch + 1))
 one_more t f ch e g = more t (joined f ch) (f ch) e g ∙ ap (λ (n : ℕ). cut (t ++ joined f n)) (sym (add-one ch))
-
-pub all_shown : {l : List ℕ} (t : List ℕ) (f : ℕ → List ℕ) (ch n : ℕ) → l ≡ cut (t ++ joined f ch) → ch ≤ n → n ≤ ch → l ≡ cut (t ++ joined f n)
-all_shown t f ch n e h g = e ∙ ap (λ (n : ℕ). cut (t ++ joined f n)) (let s : ch ≡ n = omega arith in s)
 
 -- a line that holds its text whole
 pub held : {l r : List ℕ} (a b s : List ℕ) → l ≡ cut a → r ≡ cut (l ++ b) → a ++ b ≡ s → length s ≤ 256 → r ≡ s

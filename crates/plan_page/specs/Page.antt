@@ -6,8 +6,7 @@ use Rattle.layout.specs.Layout.{channel_count}
 use Rattle.encoder_bit_budget.specs.declared.FixedBitBudget.{FixedBitBudget}
 use Rattle.encoder_bit_budget.specs.Budget.{plain, budget_of, fixed_in, layout_in, offered_of, natural}
 use Rattle.encoder_bit_demand.specs.Demand.{demand_of}
-use Rattle.encoder_bit_allocator.specs.declared.Allocation.{Allocation}
-use Rattle.encoder_bit_allocator.specs.Allocation.{allocation_of}
+use Rattle.encoder_bit_allocator.specs.Allocation.{AllocationAnswer, allocation_of}
 use Rattle.plan_text.specs.Quoted.{text}
 use Rattle.plan_page.specs.Rows.{heading_line, subband_line}
 use Rattle.plan_lines.specs.Lines.{frame_line, bits_line, demand_line}
@@ -33,7 +32,7 @@ accepted_page b offered demand steps left smr =
     head_of b offered demand ++ tabulate b.sblimit (subband_line (layout_in b) steps smr) ++ foot_of offered left
 
 -- the page from what the budget, the offer, the demand and the allocation answer
-unfoldable pub page_by : FrameHeader → List (List Float) → FixedBitBudget → ℕ → ℕ → Allocation → List (List ℕ)
+unfoldable pub page_by : FrameHeader → List (List Float) → FixedBitBudget → ℕ → ℕ → AllocationAnswer → List (List ℕ)
 page_by h smr b offered demand a =
     cond (eqb a.number 0)
     (accepted_page b offered demand a.audio.nb_steps a.left smr)

@@ -1,24 +1,23 @@
 // The page, line by line.
-ghost use Rattle.std.specs.Prelude.{◌≡◌, [], ◌+◌, ◌-◌, ◌≤◌, length, get_or};
+ghost use Rattle.std.specs.Prelude.{◌≡◌, [], ◌-◌, ◌≤◌, length, get_or};
 ghost use Rattle.encoder_bit_budget.specs.Budget.{offered_in, natural};
+ghost use Rattle.encoder_bit_demand.specs.Demand.{demand_of};
 ghost use Rattle.text_line.specs.Line.{text_of};
 ghost use Rattle.plan_page.specs.Page.{head_of, foot_of, accepted_page, page_of};
 
 use crate::rows;
 use encoder_bit_budget::{FixedBitBudget, Request};
 use header::FrameHeader;
+use plan_lines::{Label, Refusal};
 use text_line::Line;
 
 // How many lines the page has.
 pub fn page_length(header: FrameHeader, banc: u32, smr_db: [[f64; 32]; 2]) -> usize
     ensures { result ≡ length (page_of header banc smr_db) }
 {
-    let a = encoder_bit_allocator::allocate_bits(header, smr_db, banc);
-    if a.number == 0 {
-        let b = plan_lines::budget_held(Request { header, banc });
-        9 + b.sblimit
-    } else {
-        1
+    match encoder_bit_allocator::allocate_bits(header, smr_db, banc) {
+        Ok(_) => 9 + plan_lines::budget_held(Request { header, banc }).sblimit,
+        Err(_) => 1,
     }
 }
 
@@ -26,81 +25,91 @@ pub fn page_length(header: FrameHeader, banc: u32, smr_db: [[f64; 32]; 2]) -> us
 pub fn page_line(header: FrameHeader, banc: u32, smr_db: [[f64; 32]; 2], n: usize) -> Line
     ensures { text_of result ≡ get_or (page_of header banc smr_db) n [] }
 {
-    let a = encoder_bit_allocator::allocate_bits(header, smr_db, banc);
-    if a.number == 0 {
-        let b = plan_lines::budget_held(Request { header, banc });
-        let demand = encoder_bit_demand::demand_bits(header, smr_db);
-        let audio = a.audio;
-        let steps = audio.nb_steps;
-        accepted_line(
-            b,
-            offered_bits(b, banc),
-            demand.bits(),
-            steps,
-            a.left as u64,
-            smr_db,
-            n,
-        )
-    } else if n == 0 {
-        plan_lines::refusal_line(header, a.number, a.cb, a.fixed, a.banc)
-    } else {
-        Line::new()
+    match encoder_bit_allocator::allocate_bits(header, smr_db, banc) {
+        Ok(allocation) => {
+            let audio = allocation.audio;
+            let steps = audio.nb_steps;
+            let budget = plan_lines::budget_held(Request { header, banc });
+            let accepted = Accepted {
+                budget,
+                offered: offered_bits(budget, banc),
+                demand: demanded_bits(header, smr_db),
+                steps,
+                left: allocation.left as u64,
+                smr_db,
+            };
+            accepted.line(n)
+        }
+        Err(error) => {
+            if n == 0 {
+                plan_lines::refusal_line(header, Refusal::from(error))
+            } else {
+                Line::new()
+            }
+        }
     }
 }
 
-// A line of the page of an accepted request.
-fn accepted_line(
-    b: FixedBitBudget,
+// The bits demanded; 0 where the header is refused.
+fn demanded_bits(header: FrameHeader, smr_db: [[f64; 32]; 2]) -> u64
+    ensures { result ≡ (demand_of header smr_db).bits }
+{
+    match encoder_bit_demand::demand_bits(header, smr_db) {
+        Ok(bits) => bits,
+        Err(_) => 0,
+    }
+}
+
+// What the page of an accepted request shows.
+#[derive(Clone, Copy)]
+struct Accepted {
+    budget: FixedBitBudget,
     offered: u64,
     demand: u64,
     steps: [u32; 64],
     left: u64,
     smr_db: [[f64; 32]; 2],
-    n: usize,
-) -> Line
-    requires { b.sblimit ≤ 30 }
-    ensures { text_of result ≡ get_or (accepted_page b offered demand steps left smr_db) n [] }
-{
-    let sblimit = b.sblimit;
-    if n < 6 {
-        head_line(b, offered, demand, n)
-    } else if n - 6 < sblimit {
-        rows::subband_line(b.layout(), steps, smr_db, n - 6)
-    } else {
-        foot_line(offered, left, n - 6 - sblimit)
-    }
+    ghost few: { budget.sblimit ≤ 30 },
 }
 
-// A line above the rows.
-fn head_line(b: FixedBitBudget, offered: u64, demand: u64, n: usize) -> Line
-    ensures { text_of result ≡ get_or (head_of b offered demand) n [] }
-{
-    if n == 0 {
-        plan_lines::frame_line(b)
-    } else if n == 1 {
-        plan_lines::fixed_line(b.fixed())
-    } else if n == 2 {
-        plan_lines::offered_line(offered)
-    } else if n == 3 {
-        plan_lines::demand_line(demand, offered)
-    } else if n == 5 {
-        let layout = b.layout();
-        rows::heading(layout.channel_count())
-    } else {
-        Line::new()
+impl Accepted {
+    // A line of the page.
+    fn line(&self, n: usize) -> Line
+        ensures { text_of result ≡ get_or (accepted_page self.now.budget self.now.offered self.now.demand self.now.steps self.now.left self.now.smr_db) n [] }
+    {
+        let sblimit = self.budget.sblimit;
+        if n < 6 {
+            self.head_line(n)
+        } else if n - 6 < sblimit {
+            rows::subband_line(self.budget.layout(), self.steps, self.smr_db, n - 6)
+        } else {
+            self.foot_line(n - 6 - sblimit)
+        }
     }
-}
 
-// A line below them.
-fn foot_line(offered: u64, left: u64, n: usize) -> Line
-    ensures { text_of result ≡ get_or (foot_of offered left) n [] }
-{
-    if n == 1 {
-        plan_lines::charged_line(text_line::above(offered, left))
-    } else if n == 2 {
-        plan_lines::left_line(left)
-    } else {
-        Line::new()
+    // A line above the rows.
+    fn head_line(&self, n: usize) -> Line
+        ensures { text_of result ≡ get_or (head_of self.now.budget self.now.offered self.now.demand) n [] }
+    {
+        match n {
+            0 => plan_lines::frame_line(self.budget),
+            1 => plan_lines::bits_line(Label::Fixed, self.budget.fixed()),
+            2 => plan_lines::bits_line(Label::Offered, self.offered),
+            3 => plan_lines::demand_line(self.demand, self.offered),
+            5 => rows::heading(self.budget.layout()),
+            _ => Line::new(),
+        }
+    }
+
+    // A line below them.
+    fn foot_line(&self, n: usize) -> Line
+        ensures { text_of result ≡ get_or (foot_of self.now.offered self.now.left) n [] }
+    {
+        match n {
+            1 => plan_lines::bits_line(Label::Charged, self.offered.saturating_sub(self.left)),
+            2 => plan_lines::bits_line(Label::Left, self.left),
+            _ => Line::new(),
+        }
     }
 }
 
@@ -108,5 +117,5 @@ fn foot_line(offered: u64, left: u64, n: usize) -> Line
 fn offered_bits(b: FixedBitBudget, banc: u32) -> u64
     ensures { result ≡ natural (offered_in b banc) }
 {
-    text_line::above(b.cb as u64, b.fixed() + (banc as u64))
+    u64::from(b.cb).saturating_sub(b.fixed() + u64::from(banc))
 }

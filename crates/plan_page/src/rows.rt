@@ -1,5 +1,6 @@
 // The rows, one for each subband that is carried.
-ghost use Rattle.std.specs.Prelude.{◌≡◌, ◌++◌, ◌≤◌, ◌<◌};
+ghost use Rattle.std.specs.Prelude.{◌≡◌, ◌++◌, ◌<◌};
+ghost use Rattle.layout.specs.Layout.{channel_count};
 ghost use Rattle.plan_text.specs.Quoted.{text};
 ghost use Rattle.text_line.specs.Line.{text_of, cut};
 ghost use Rattle.plan_page.specs.Rows.{joined, column_heads, heading_line, row_start, slot_columns, channel_columns, subband_line};
@@ -8,39 +9,21 @@ ghost use Rattle.plan_page.specs.Charged.{BitsInAre, SubbandBitsAre};
 use layout::{AllocationField, Layout};
 use text_line::Line;
 
-pub fn heading(channels: usize) -> Line
-    requires { channels ≤ 2 }
-    ensures { text_of result ≡ heading_line channels }
+pub fn heading(layout: Layout) -> Line
+    ensures { text_of result ≡ heading_line (channel_count layout) }
 {
-    let line = all_columns(channels);
-    line.text(b"  bits")
+    all_columns(layout).text(b"  bits")
 }
 
 // The heading as far as the last channel's columns.
-fn all_columns(channels: usize) -> Line
-    requires { channels ≤ 2 }
-    ensures { text_of result ≡ cut (text "subband |" ++ joined (λ ch. column_heads) channels) }
+fn all_columns(layout: Layout) -> Line
+    ensures { text_of result ≡ cut (text "subband |" ++ joined (λ ch. column_heads) (channel_count layout)) }
 {
-    let mut line = heading_start();
-    let mut ch: usize = 0;
-    while ch < channels {
-        line = columns(line);
-        ch = ch + 1;
+    let mut line = Line::new().text(b"subband |");
+    for _ in 0..layout.channel_count() {
+        line = line.text(b"     ratio  steps      left |");
     }
     line
-}
-
-fn heading_start() -> Line
-    ensures { text_of result ≡ cut (text "subband |") }
-{
-    Line::new().text(b"subband |")
-}
-
-// A channel's columns.
-fn columns(line: Line) -> Line
-    ensures { text_of result ≡ cut (text_of line ++ column_heads) }
-{
-    line.text(b"     ratio  steps      left |")
 }
 
 pub fn subband_line(layout: Layout, steps: [u32; 64], smr_db: [[f64; 32]; 2], sb: usize) -> Line
@@ -48,20 +31,17 @@ pub fn subband_line(layout: Layout, steps: [u32; 64], smr_db: [[f64; 32]; 2], sb
     ensures { text_of result ≡ subband_line layout steps smr_db sb }
 {
     let bits = subband_bits(layout, &steps, sb);
-    let line = channel_columns(layout.channel_count(), &steps, &smr_db, sb);
-    line.number_in(6, bits)
+    channel_columns(layout, &steps, &smr_db, sb).number_in(6, bits)
 }
 
 // A row as far as its last channel's columns.
-fn channel_columns(channels: usize, steps: &[u32; 64], smr_db: &[[f64; 32]; 2], sb: usize) -> Line
-    requires { (channels ≤ 2) × (sb < 32) }
-    ensures { text_of result ≡ cut (row_start sb ++ joined (channel_columns steps.now smr_db.now sb) channels) }
+fn channel_columns(layout: Layout, steps: &[u32; 64], smr_db: &[[f64; 32]; 2], sb: usize) -> Line
+    requires { sb < 32 }
+    ensures { text_of result ≡ cut (row_start sb ++ joined (channel_columns steps.now smr_db.now sb) (channel_count layout)) }
 {
     let mut line = row_start(sb);
-    let mut ch: usize = 0;
-    while ch < channels {
+    for ch in 0..layout.channel_count() {
         line = slot_columns(line, smr_db[ch][sb], steps[32 * ch + sb]);
-        ch = ch + 1;
     }
     line
 }
@@ -87,12 +67,9 @@ fn slot_columns(line: Line, smr: f64, nb_steps: u32) -> Line
 fn subband_bits(layout: Layout, steps: &[u32; 64], sb: usize) -> u64
     ensures { SubbandBitsAre layout steps.now sb result }
 {
-    let fields = layout.fields();
-    let mut bits: u64 = 0;
-    let mut f: usize = 0;
-    while f < fields {
-        bits = bits + bits_in(layout.field(f), steps, sb);
-        f = f + 1;
+    let mut bits = 0;
+    for f in 0..layout.fields() {
+        bits += bits_in(layout.field(f), steps, sb);
     }
     bits
 }

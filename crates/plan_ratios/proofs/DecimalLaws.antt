@@ -1,6 +1,6 @@
 -- A decimal number by one division: digits below 10 ^ 15 and powers of ten up to 10 ^ 15 are exact in binary64, so only the quotient is rounded.
-use Rattle.std.proofs.Common.{◌≡◌, ℕ, ◌+◌, ◌*◌, ◌^◌, ◌<◌, ◌≤◌, Bool, true, false, cond, ◌&&◌, leb, List, ◌++◌, length, pos, refl, ap, ◌∙◌, mul-pos, arith, length-append, ne_eqb, leb-true}
-use mathlib.Core.Option.{none, some}
+use Rattle.std.proofs.Common.{◌≡◌, ℕ, ◌+◌, ◌*◌, ◌^◌, ◌<◌, ◌≤◌, Bool, true, false, cond, ◌&&◌, leb, List, ◌++◌, length, pos, min, refl, sym, ap, ◌∙◌, mul-pos, arith, length-append, ne_eqb, leb-true, leb-false}
+use Rattle.std.specs.Prelude.{Some, None}
 use native.Mathlib.Nat.{pow-le-pow_right}
 use lib.Ieee.{Float, nan, inf, fin, binary64, up, down, round, div, of_int}
 use lib.Ieee.Exact.{HasValue}
@@ -39,9 +39,6 @@ whole_quotient n d h p g =
 pub tens : (n : ℕ) → n ≤ 15 → 10 ^ n ≤ 10 ^ 15
 tens n h = pow-le-pow_right (omega arith) h
 
-pub power_is : (i n p : ℕ) → i ≡ n → p ≡ 10 ^ i → p ≡ 10 ^ n
-power_is i n p e q = q ∙ ap (λ (k : ℕ). 10 ^ k) e
-
 pub one_division : (n places : ℕ) → n < 10 ^ 15 → places ≤ 15
     → div binary64 (of_int binary64 (pos n)) (of_int binary64 (pos (10 ^ places))) ≡ decimal places n
 unfolding decimal
@@ -52,20 +49,20 @@ one_division n places h g =
 -- ---- a number in two parts
 
 module _ (a b : List ℕ) where
-  pub pointed_unfew : few (length a + length b) ≡ false → pointed a b ≡ none
+  pub pointed_unfew : few (length a + length b) ≡ false → pointed a b ≡ None
   unfolding pointed
   pointed_unfew h = rw (length-append a b, h)
 
-  pub pointed_undigit : digits a && digits b ≡ false → pointed a b ≡ none
+  pub pointed_undigit : digits a && digits b ≡ false → pointed a b ≡ None
   unfolding pointed
   pointed_undigit h = rw (digits_append a b, h) (go (few (length (a ++ b))))
     where
-      go : (t : Bool) → cond (t && false) (some (decimal (length b) (numeral (a ++ b)))) none ≡ none
+      go : (t : Bool) → cond (t && false) (Some (decimal (length b) (numeral (a ++ b)))) None ≡ None
       go true = refl
       go false = refl
 
   pub pointed_read : few (length a + length b) ≡ true → digits a ≡ true → digits b ≡ true
-      → pointed a b ≡ some (decimal (length b) (numeral a * 10 ^ length b + numeral b))
+      → pointed a b ≡ Some (decimal (length b) (numeral a * 10 ^ length b + numeral b))
   unfolding pointed
   pointed_read h f g = rw (length-append a b, h, digits_append a b, f, g, numeral_append a b)
 
@@ -93,25 +90,25 @@ most = 999_999_999_999_999
 
 -- what the reading of the two parts tells
 module _ (a b : List ℕ) (h : few (length a + length b) ≡ true) where
-  short : (bs : List ℕ) → length bs ≤ 15 → number_to most bs ≡ none → digits bs ≡ false
+  short : (bs : List ℕ) → length bs ≤ 15 → number_to most bs ≡ None → digits bs ≡ false
   short bs l = unread_told most bs (tens (length bs) l)
 
-  pub front_unread : number_to most a ≡ none → pointed a b ≡ none
+  pub front_unread : number_to most a ≡ None → pointed a b ≡ None
   front_unread e = pointed_undigit a b (rw (short a (few_most (length a) (length b) h).0 e))
 
-  module _ (w : ℕ) (front : number_to most a ≡ some w) where
-    pub back_unread : number_to most b ≡ none → pointed a b ≡ none
+  module _ (w : ℕ) (front : number_to most a ≡ Some w) where
+    pub back_unread : number_to most b ≡ None → pointed a b ≡ None
     back_unread e =
         pointed_undigit a b (rw ((read_told most w a front).0, short b (few_most (length a) (length b) h).1 e))
 
-    module _ (f : ℕ) (back : number_to most b ≡ some f) where
+    module _ (f : ℕ) (back : number_to most b ≡ Some f) where
       pub parts_less : (length b ≤ 15) × (w * 10 ^ length b + f < 10 ^ 15)
       parts_less =
           let p = read_told most w a front in
           let q = read_told most f b back in
           rw (← p.1, ← q.1) (pointed_less a b h p.0 q.0)
 
-      pub parts_read : pointed a b ≡ some (decimal (length b) (w * 10 ^ length b + f))
+      pub parts_read : pointed a b ≡ Some (decimal (length b) (w * 10 ^ length b + f))
       parts_read =
           let p = read_told most w a front in
           let q = read_told most f b back in
@@ -124,3 +121,11 @@ many n h = rw (lt-leb n 15 h) (go (leb 1 n))
     go : (t : Bool) → t && false ≡ false
     go true = refl
     go false = refl
+
+-- a count that stops at the largest number of 64 bits
+pub capped : (n r : ℕ) → r ≡ min n 18_446_744_073_709_551_615 → few r ≡ few n
+capped n r e = go (leb n 15) refl
+  where
+    go : (t : Bool) → leb n 15 ≡ t → few r ≡ few n
+    go true h = let l = leb-true n 15 h in let z : r ≡ n = omega arith in ap few z
+    go false h = let l = leb-false n 15 h in many r (omega arith) ∙ sym (many n (omega arith))

@@ -1,5 +1,6 @@
 -- The tokens of a text, met from its front: a byte between tokens, a comment, a token.
-use Rattle.std.proofs.Common.{◌≡◌, ℕ, suc, ◌+◌, ◌-◌, ◌<◌, Bool, true, false, cond, ◌||◌, T, List, [], ◌∷◌, ◌++◌, map, length, get_or, take, drop, sym, refl, ap, ◌∙◌, subst, add-one, arith, drop-cons, drop-drop, eq-eqb, ne_eqb, eqb-true}
+use Rattle.std.proofs.Common.{◌≡◌, ℕ, suc, ◌+◌, ◌-◌, ◌<◌, ◌≤◌, Bool, true, false, cond, ◌||◌, T, List, [], ◌∷◌, ◌++◌, map, length, get_or, take, drop, sym, refl, ap, ◌∙◌, subst, add-one, arith, drop-cons, drop-drop, eq-eqb, ne_eqb, eqb-true}
+use mir.Val.{bool_byte}
 use Rattle.plan_text.proofs.ByteLaws.{found_most}
 use Rattle.plan_text.specs.Bytes.{reach, before, onto, pieces}
 use Rattle.plan_text.specs.Lines.{ends_line, is_hash, is_blank}
@@ -9,6 +10,15 @@ use Rattle.plan_ratios.specs.Walk.{is_end, gap, GapEndIs}
 neither : (a b : Bool) → a || b ≡ false → (a ≡ false) × (b ≡ false)
 neither true b e = absurd (subst T e tt)
 neither false b e = (refl, e)
+
+-- a test as a number
+pub flag_is : (b : Bool) → bool_byte b ≡ cond b 1 0
+flag_is true = refl
+flag_is false = refl
+
+pub flag_few : (b : Bool) {n : ℕ} → n ≡ bool_byte b → n ≤ 1
+flag_few true e = omega arith
+flag_few false e = omega arith
 
 -- ---- one byte at the front of a line
 

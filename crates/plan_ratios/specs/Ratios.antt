@@ -1,12 +1,11 @@
 -- The answer to a text of ratios: one for each slot, or what is wrong with the first token that is wrong.
-use Rattle.std.specs.Prelude.{ℕ, ◌-◌, min, false, cond, List, [], ◌∷◌, ◌++◌, length, replicate, pos, nat_lt, Float}
-use Rattle.std.proofs.Math.Option.{Option, none, some}
+use Rattle.std.specs.Prelude.{ℕ, ◌-◌, min, false, cond, List, [], ◌∷◌, ◌++◌, length, replicate, pos, nat_lt, Float, Option, Some, None, Result, Ok, Err}
 use Rattle.std.specs.Float.{fin}
 use Rattle.plan_text.specs.Bytes.{pieces}
 use Rattle.plan_text.specs.Lines.{ends_line}
 use Rattle.plan_ratios.specs.declared.Ratios.{Ratios}
-use Rattle.plan_ratios.specs.declared.RatiosAnswer.{RatiosAnswer}
-use Rattle.plan_ratios.specs.declared.RatiosAnswer.TheVariants.{Accepted, CannotRead, TooMany, TooFew}
+use Rattle.plan_ratios.specs.declared.RatiosError.{RatiosError}
+use Rattle.plan_ratios.specs.declared.RatiosError.TheVariants.{NotARatio, TooMany, TooFew}
 use Rattle.plan_ratios.specs.Ratio.{ratio_of}
 use Rattle.plan_ratios.specs.Tokens.{Token, tokens_from}
 
@@ -18,27 +17,23 @@ wanted slots = min slots 64
 unfoldable pub empty : ℕ → List Float
 empty n = replicate n (fin false 0 (pos 0))
 
--- an answer that names a line; its slots are empty
-unfoldable pub refused : RatiosAnswer → ℕ → ℕ → Ratios
-refused answer line count = record { answer = answer; line = line; count = count; ratios = empty 64 }
-
 -- the ratios in order, and empty slots behind them
 unfoldable pub accepted : List Float → Ratios
-accepted xs = record { answer = Accepted; line = 0; count = length xs; ratios = xs ++ empty (64 - length xs) }
+accepted xs = record { count = length xs; ratios = xs ++ empty (64 - length xs) }
 
 -- by whether a token is a ratio
-abbrev pub where_read : Option Float → Ratios → (Float → Ratios) → Ratios
-where_read none other f = other
-where_read (some x) other f = f x
+abbrev pub where_read : {A : Type 0} → Option Float → A → (Float → A) → A
+where_read None other f = other
+where_read (Some x) other f = f x
 
 -- the answer to tokens, where `got` are the ratios of those before them; any token behind the last slot is one too many
-unfoldable pub answered : ℕ → ℕ → List Float → List Token → Ratios
-answered slots lastLine got [] = cond (nat_lt (length got) slots) (refused TooFew lastLine (length got)) (accepted got)
+unfoldable pub answered : ℕ → ℕ → List Float → List Token → Result Ratios RatiosError
+answered slots lastLine got [] = cond (nat_lt (length got) slots) (Err (TooFew lastLine (length got))) (Ok (accepted got))
 answered slots lastLine got (t ∷ ts) =
     cond (nat_lt (length got) slots)
-    (where_read (ratio_of t.text) (refused CannotRead t.line (length got)) (λ x. answered slots lastLine (got ++ x ∷ []) ts))
-    (refused TooMany t.line (length got))
+    (where_read (ratio_of t.text) (Err (NotARatio t.line (length got))) (λ x. answered slots lastLine (got ++ x ∷ []) ts))
+    (Err (TooMany t.line (length got)))
 
 -- the whole answer; lines are counted from 1, and the last line's number is how many there are
-unfoldable pub ratios_of : ℕ → List ℕ → Ratios
+unfoldable pub ratios_of : ℕ → List ℕ → Result Ratios RatiosError
 ratios_of slots text = answered (wanted slots) (length (pieces ends_line text)) [] (tokens_from 1 text)

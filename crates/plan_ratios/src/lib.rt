@@ -1,83 +1,49 @@
 // Reading signal-to-mask ratios, in decibels, from a text.
 #![tactic(auto)]
 
-ghost use Rattle.std.specs.Prelude.{◌≡◌, ◌+◌, ◌*◌, ◌^◌, ◌<◌, ◌≤◌, length, drop};
-ghost use Rattle.std.proofs.Math.Option.{map};
-ghost use Rattle.std.specs.Float.Ieee.{neg};
+ghost use Rattle.std.specs.Prelude.{◌≡◌, ◌+◌, ◌*◌, ◌^◌, ◌<◌, ◌≤◌, length, drop, position};
 ghost use Rattle.tables.specs.Decimal.{decimal};
-ghost use Rattle.plan_ratios.specs.Ratio.{few, pointed, unsigned, signed, word_value, ratio_of, read_of};
+ghost use Rattle.plan_ratios.specs.Ratio.{few, pointed, unsigned, signed, word_value, ratio_of};
 ghost use Rattle.plan_text.specs.Bytes.{reach, pieces};
 ghost use Rattle.plan_text.specs.Lines.{ends_line};
-ghost use Rattle.plan_ratios.specs.Ratios.{empty, refused, ratios_of};
-ghost use Rattle.plan_ratios.specs.Walk.{is_end, WantedAre, FeedsAre, GapEndIs, Skipped};
+ghost use Rattle.plan_ratios.specs.Ratios.{ratios_of};
+ghost use Rattle.plan_ratios.specs.Walk.{is_end, GapEndIs, Skipped};
 
-use plan_text::OptionU64;
+// The words that are no numbers, and the ratios that they stand for.
+const WORDS: [(&[u8], f64); 3] = [
+    (b"inf", f64::INFINITY),
+    (b"-inf", f64::NEG_INFINITY),
+    (b"nan", f64::NAN),
+];
 
-// A ratio that may be missing.
-#[derive(Clone, Copy)]
-pub enum OptionRatio {
-    Some(f64),
-    None,
+// The ratio that a token stands for: the binary64 nearest to its digits; nothing where it is not written as one.
+pub fn read_ratio(token: &[u8]) -> Option<f64>
+    ensures { result ≡ ratio_of token.now }
+{
+    read_word(token).or(read_signed(token))
 }
 
-// The ratio that a token stands for: the binary64 nearest to its digits; none where it is not written as one.
-pub fn read_ratio(token: &[u8]) -> OptionRatio
-    ensures { read_of result ≡ ratio_of token.now }
+// The ratio of a word that is no number.
+fn read_word(token: &[u8]) -> Option<f64>
+    ensures { result ≡ word_value token.now }
 {
-    let word = read_word(token);
-    match word {
-        OptionRatio::Some(x) => OptionRatio::Some(x),
-        OptionRatio::None => read_signed(token),
-    }
+    plan_text::look_up(&WORDS, token)
 }
 
 // A number with a sign or without.
-fn read_signed(token: &[u8]) -> OptionRatio
-    ensures { read_of result ≡ signed token.now }
+fn read_signed(token: &[u8]) -> Option<f64>
+    ensures { result ≡ signed token.now }
 {
-    if token.len() == 0 {
-        return read_unsigned(token);
-    }
-    let first = token[0];
-    if first == b'-' {
-        let size = read_unsigned(&token[1..]);
-        return negated(size);
-    }
-    if first == b'+' {
-        return read_unsigned(&token[1..]);
-    }
-    read_unsigned(token)
-}
-
-// The words that are no numbers.
-fn read_word(token: &[u8]) -> OptionRatio
-    ensures { read_of result ≡ word_value token.now }
-{
-    if plan_text::same(token, b"inf") {
-        return OptionRatio::Some(1.0 / 0.0);
-    }
-    if plan_text::same(token, b"-inf") {
-        return OptionRatio::Some(-1.0 / 0.0);
-    }
-    if plan_text::same(token, b"nan") {
-        return OptionRatio::Some(0.0 / 0.0);
-    }
-    OptionRatio::None
-}
-
-// A number, where there is one, with its sign turned.
-fn negated(size: OptionRatio) -> OptionRatio
-    ensures { read_of result ≡ map neg (read_of size) }
-{
-    match size {
-        OptionRatio::Some(x) => OptionRatio::Some(-x),
-        OptionRatio::None => OptionRatio::None,
+    match token {
+        [b'-', size @ ..] => read_unsigned(size).map(|x| -x),
+        [b'+', size @ ..] => read_unsigned(size),
+        _ => read_unsigned(token),
     }
 }
 
 // A number without its sign.
-fn read_unsigned(token: &[u8]) -> OptionRatio
-    ensures { read_of result ≡ unsigned token.now }
+fn read_unsigned(token: &[u8]) -> Option<f64>
+    ensures { result ≡ unsigned token.now }
 {
     let point = plan_text::find_byte(token, 0, b'.');
     let start = plan_text::past(point, token.len());
@@ -85,36 +51,23 @@ fn read_unsigned(token: &[u8]) -> OptionRatio
 }
 
 // A number from the digits before its point and those behind it.
-fn read_pointed(front: &[u8], back: &[u8]) -> OptionRatio
-    ensures { read_of result ≡ pointed front.now back.now }
+fn read_pointed(front: &[u8], back: &[u8]) -> Option<f64>
+    ensures { result ≡ pointed front.now back.now }
 {
-    let places = back.len();
-    if are_few(front.len(), places) {
-        let first = plan_text::read_digits(front);
-        let OptionU64::Some(whole) = first else {
-            return OptionRatio::None;
-        };
-        let second = plan_text::read_digits(back);
-        let OptionU64::Some(fraction) = second else {
-            return OptionRatio::None;
-        };
-        OptionRatio::Some(nearest_decimal(whole, fraction, places))
-    } else {
-        OptionRatio::None
+    if !are_few(front.len(), back.len()) {
+        return None;
     }
+    let whole = plan_text::read_digits(front)?;
+    let fraction = plan_text::read_digits(back)?;
+    Some(nearest_decimal(whole, fraction, back.len()))
 }
 
 // Whether two counts are 1 to 15 together.
 fn are_few(a: usize, b: usize) -> bool
     ensures { result ≡ few (a + b) }
 {
-    if 15 < a {
-        return false;
-    }
-    if 15 < b {
-        return false;
-    }
-    (1 <= a + b) & (a + b <= 15)
+    let digits = a.saturating_add(b);
+    (1 <= digits) & (digits <= 15)
 }
 
 // whole + fraction / 10^places, rounded once: both numbers that are divided are exact in binary64.
@@ -122,147 +75,94 @@ fn nearest_decimal(whole: u64, fraction: u64, places: usize) -> f64
     requires { (places ≤ 15) × (whole * 10 ^ places + fraction < 10 ^ 15) }
     ensures { result ≡ decimal places (whole * 10 ^ places + fraction) }
 {
-    let scale = power_of_ten(places);
+    let scale = 10u64.pow(places as u32);
     let digits = whole * scale + fraction;
     std::num::nearest_u64_to_f64(digits) / std::num::nearest_u64_to_f64(scale)
 }
 
-fn power_of_ten(n: usize) -> u64
-    requires { n ≤ 15 }
-    ensures { result ≡ 10 ^ n }
-{
-    let mut power: u64 = 1;
-    let mut i = 0;
-    while i < n {
-        power = power * 10;
-        i += 1;
-    }
-    power
-}
-
-// What `read_ratios` answers.
+// Why `read_ratios` refuses: the line, counted from 1, and how many ratios stand before.
 #[derive(Clone, Copy)]
-pub enum RatiosAnswer {
-    Accepted,
+pub enum RatiosError {
     // A token that is no ratio.
-    CannotRead,
+    NotARatio { line: u64, count: usize },
     // A token behind the last slot.
-    TooMany,
-    // The text ends before the last slot is filled.
-    TooFew,
+    TooMany { line: u64, count: usize },
+    // The text ends, with this line, before the last slot is filled.
+    TooFew { line: u64, count: usize },
 }
 
 // The ratios of a text: slot 32 * channel + subband, channel 0's first.
 #[derive(Clone, Copy)]
 pub struct Ratios {
-    pub answer: RatiosAnswer,
-    // Where it is not accepted, the line of the token, or the last line; lines are counted from 1.
-    pub line: u64,
-    // How many ratios were read.
+    // How many there are; the slots behind them have 0.0.
     pub count: usize,
     pub ratios: [f64; 64],
 }
 
 // The ratios of a text, one for each slot, in their order; 64 slots at most.
-pub fn read_ratios(text: &[u8], slots: usize) -> Ratios
+pub fn read_ratios(text: &[u8], slots: usize) -> Result<Ratios, RatiosError>
     ensures { result ≡ ratios_of slots text.now }
 {
-    let room = wanted(slots);
-    let mut ratios = no_ratios();
+    let room = slots.min(64);
+    let mut ratios = [0.0; 64];
     let mut count: usize = 0;
-    let start = skip_gap(text, 0, 0);
-    let mut at = start.at;
-    let mut feeds = start.feeds;
-    while at < text.len() {
+    let mut place = skip_gap(text, Place { at: 0, feeds: 0 });
+    while place.at < text.len() {
+        let line = place.feeds + 1;
         if count == room {
-            return refused(RatiosAnswer::TooMany, feeds + 1, count);
+            return Err(RatiosError::TooMany { line, count });
         }
-        let end = token_end(text, at);
-        let read = read_ratio(&text[at..end]);
-        let OptionRatio::Some(ratio) = read else {
-            return refused(RatiosAnswer::CannotRead, feeds + 1, count);
+        let end = token_end(text, place.at);
+        let Some(ratio) = read_ratio(&text[place.at..end]) else {
+            return Err(RatiosError::NotARatio { line, count });
         };
         ratios[count] = ratio;
         count += 1;
-        let next = skip_gap(text, end, feeds);
-        at = next.at;
-        feeds = next.feeds;
+        place = skip_gap(
+            text,
+            Place {
+                at: end,
+                feeds: place.feeds,
+            },
+        );
     }
     if count < room {
-        return refused(RatiosAnswer::TooFew, count_lines(text), count);
+        let line = count_lines(text);
+        return Err(RatiosError::TooFew { line, count });
     }
-    Ratios {
-        answer: RatiosAnswer::Accepted,
-        line: 0,
-        count,
-        ratios,
-    }
-}
-
-// How many ratios are wanted.
-fn wanted(slots: usize) -> usize
-    ensures { WantedAre slots result }
-{
-    if slots < 64 { slots } else { 64 }
-}
-
-// 64 slots with 0.0.
-fn no_ratios() -> [f64; 64]
-    ensures { result ≡ empty 64 }
-{
-    [0.0; 64]
-}
-
-// An answer that names a line.
-fn refused(answer: RatiosAnswer, line: u64, count: usize) -> Ratios
-    ensures { result ≡ refused answer line count }
-{
-    let ratios = no_ratios();
-    Ratios {
-        answer,
-        line,
-        count,
-        ratios,
-    }
+    Ok(Ratios { count, ratios })
 }
 
 // A place of a text, and how many line feeds stand before it.
 #[derive(Clone, Copy)]
-struct Gap {
+struct Place {
     at: usize,
     feeds: u64,
 }
 
 // Past white space and comments: where the next token starts, or the text ends.
-fn skip_gap(text: &[u8], from: usize, passed: u64) -> Gap
-    requires { (from ≤ length text.now) × (passed ≤ from) }
-    ensures { Skipped text.now from passed result }
+fn skip_gap(text: &[u8], from: Place) -> Place
+    requires { (from.at ≤ length text.now) × (from.feeds ≤ from.at) }
+    ensures { Skipped text.now from result }
 {
-    let mut at = from;
-    let mut feeds = passed;
-    while at < text.len() {
-        let byte = text[at];
-        if is_end(byte) {
-            feeds = feeds + feeds_of(byte);
-            at = gap_end(text, at);
-        } else {
-            return Gap { at, feeds };
+    let mut place = from;
+    while place.at < text.len() {
+        let byte = text[place.at];
+        if !is_end(byte) {
+            return place;
         }
+        let feeds = place.feeds + u64::from(byte == b'\n');
+        let at = gap_end(text, place.at);
+        place = Place { at, feeds };
     }
-    Gap { at, feeds }
+    place
 }
 
 // A byte that ends a token: a line feed, the # of a comment, a space, a tab or a carriage return.
 fn is_end(byte: u8) -> bool
     ensures { result ≡ is_end byte }
 {
-    (byte == b'\n') | (byte == b'#') | ((byte == b' ') | (byte == b'\t') | (byte == b'\r'))
-}
-
-fn feeds_of(byte: u8) -> u64
-    ensures { FeedsAre byte result }
-{
-    if byte == b'\n' { 1 } else { 0 }
+    matches!(byte, b'\n' | b'#' | b' ' | b'\t' | b'\r')
 }
 
 // Where a comment's line ends; past any other byte.
@@ -282,14 +182,17 @@ fn gap_end(text: &[u8], at: usize) -> usize
 fn token_end(text: &[u8], from: usize) -> usize
     ensures { result ≡ from + reach is_end (drop from text.now) }
 {
-    let mut i = from;
-    while i < text.len() {
-        if is_end(text[i]) {
-            return i;
-        }
-        i += 1;
+    match steps_to_end(text, from) {
+        Some(steps) => from + steps,
+        None => from.max(text.len()),
     }
-    i
+}
+
+// How many bytes stand before the first that ends a token, from a place on; nothing where none does.
+fn steps_to_end(text: &[u8], from: usize) -> Option<usize>
+    ensures { result ≡ position is_end (drop from text.now) }
+{
+    text.iter().skip(from).position(|b| is_end(*b))
 }
 
 // How many lines a text has.

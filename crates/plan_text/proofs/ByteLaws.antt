@@ -1,6 +1,6 @@
 -- Laws of texts: equal texts, the first byte that passes a test, and the pieces of a text.
 use mathlib.Core.Path.{◌≡◌, refl, sym, ap, ◌∙◌, subst}
-use mathlib.Core.Bool.{Bool, true, false, cond, ◌&&◌}
+use mathlib.Core.Bool.{Bool, true, false, cond, not, ◌&&◌}
 use mathlib.Core.List.{List, [], ◌∷◌}
 use Prim.Native.Nat.{ℕ, suc, ◌+◌, ◌-◌, ◌≤◌, ◌<◌, min, suc-le-suc}
 use native.Mathlib.Nat.{not-suc-le-zero, zero-lt-suc}
@@ -10,6 +10,9 @@ use lib.Dec.{T, eqb, ltb}
 use lib.ListN.{length, take, drop, get_or, drop_of_length-le, length-drop}
 use lib.Seq.{drop-cons, drop-drop, take_all}
 use borrow.Author.Tests.{eqb-true, eq-eqb, ltb-true, ltb-false}
+use Rattle.std.specs.Prelude.{bytes_eq, Some, None, position}
+use Rattle.std.specs.List.{position_or_len}
+use Rattle.std.proofs.lemmas.Option.{none-some, cond_some}
 use Rattle.plan_text.specs.Bytes.{same, reach, before, behind, onto, pieces}
 
 -- ---- equal texts
@@ -30,6 +33,13 @@ same_equal (x ∷ xs) (y ∷ ys) e =
     let p = both (eqb x y) (same xs ys) e in
     rw (eqb-true x y p.0, same_equal xs ys p.1)
 
+-- the library's words for it
+pub same_is : (xs ys : List ℕ) → same xs ys ≡ bytes_eq xs ys
+same_is [] [] = refl
+same_is [] (y ∷ ys) = refl
+same_is (x ∷ xs) [] = refl
+same_is (x ∷ xs) (y ∷ ys) = ap (λ (b : Bool). eqb x y && b) (same_is xs ys)
+
 -- a test that passes at equal texts and at no others
 pub decides : (r : Bool) (xs ys : List ℕ) → (r ≡ true → xs ≡ ys) → (xs ≡ ys → r ≡ true) → r ≡ same xs ys
 decides true xs ys f g = sym (rw (f refl) (same_refl ys))
@@ -49,6 +59,27 @@ module _ (p : ℕ → Bool) where
       go : (t : Bool) → reach p bs ≤ length bs → cond t 0 (suc (reach p bs)) ≤ length (b ∷ bs)
       go true h = omega arith
       go false h = suc-le-suc h
+
+  -- the library's words for it
+  pub reach_is : (bs : List ℕ) → reach p bs ≡ position_or_len p bs
+  reach_is [] = refl
+  reach_is (b ∷ bs) = go (p b) (reach_is bs)
+    where
+      go : (t : Bool) → reach p bs ≡ position_or_len p bs → cond t 0 (suc (reach p bs)) ≡ cond (not t) (1 + position_or_len p bs) 0
+      go true h = refl
+      go false h = omega arith
+
+  pub reach_some : (bs : List ℕ) (i : ℕ) → Some i ≡ position p bs → reach p bs ≡ i
+  reach_some bs i e =
+      let h = cond_some (ltb (position_or_len p bs) (length bs)) (position_or_len p bs) i (sym e) in
+      reach_is bs ∙ h.1
+
+  pub reach_none : (bs : List ℕ) → None ≡ position p bs → reach p bs ≡ length bs
+  reach_none bs e = go (ltb (position_or_len p bs) (length bs)) refl e
+    where
+      go : (t : Bool) → ltb (position_or_len p bs) (length bs) ≡ t → None ≡ cond t (Some (position_or_len p bs)) None → reach p bs ≡ length bs
+      go true f e = absurd (none-some _ e)
+      go false f e = let l = ltb-false (position_or_len p bs) (length bs) f in omega (arith, reach_most bs, reach_is bs)
 
   module _ (text : List ℕ) (i : ℕ) where
     pub reach_at : i < length text → p (get_or text i 0) ≡ true → reach p (drop i text) ≡ 0

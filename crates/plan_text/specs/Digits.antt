@@ -1,8 +1,5 @@
 -- Numbers in decimal digits.
-use Rattle.std.specs.Prelude.{ℕ, ◌+◌, ◌-◌, ◌*◌, ◌^◌, Bool, true, cond, ◌&&◌, List, [], ◌∷◌, leb, length}
-use Rattle.std.proofs.Math.Option.{Option, none, some}
-use Rattle.plan_text.specs.declared.OptionU64.{OptionU64}
-use Rattle.plan_text.specs.declared.OptionU64.TheVariants.{Some, None}
+use Rattle.std.specs.Prelude.{ℕ, ◌+◌, ◌-◌, ◌*◌, ◌^◌, Bool, true, cond, ◌&&◌, List, [], ◌∷◌, leb, length, Option, Some, None}
 
 -- a byte from '0' to '9'
 abbrev pub digit : ℕ → Bool
@@ -20,9 +17,4 @@ numeral (b ∷ bs) = (b - 48) * 10 ^ length bs + numeral bs
 
 -- the number of a text of digits, where it is at most `most`; no digits at all count as 0
 unfoldable pub number_to : ℕ → List ℕ → Option ℕ
-number_to most bs = cond (digits bs && leb (numeral bs) most) (some (numeral bs)) none
-
--- what each case of the enum stands for
-abbrev pub option_of : OptionU64 → Option ℕ
-option_of (Some n) = some n
-option_of None = none
+number_to most bs = cond (digits bs && leb (numeral bs) most) (Some (numeral bs)) None

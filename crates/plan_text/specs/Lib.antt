@@ -1,5 +1,5 @@
 pub mod Bytes
 pub mod Digits
-pub mod Worth
 pub mod Quoted
 pub mod Lines
+pub mod Table

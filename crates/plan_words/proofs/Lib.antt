@@ -1,3 +1,5 @@
 pub mod WordLaws
+pub mod NamedLaws
+pub mod OptionLaws
 pub mod LineLaws
 pub mod Examples

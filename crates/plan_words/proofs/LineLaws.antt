@@ -7,14 +7,15 @@ use native.Mathlib.Omega.{arith}
 use lib.Dec.{ltb}
 use lib.ListN.{length, take, drop, length-drop, drop_of_length-le}
 use lib.Seq.{length-take-le}
-use borrow.Author.Tests.{eq-eqb, ne_eqb, ltb-true, ltb-false}
+use borrow.Author.Tests.{ltb-true, ltb-false}
+use Rattle.std.specs.Prelude.{Some, None, Err}
 use Rattle.plan_text.specs.Bytes.{reach, pieces}
 use Rattle.plan_text.proofs.ByteLaws.{pieces_at, found_most}
 use Rattle.plan_words.specs.declared.Setting.{Setting}
 use Rattle.plan_words.specs.declared.Settings.{Settings}
-use Rattle.plan_words.specs.declared.WordsAnswer.TheVariants as Answer
+use Rattle.plan_words.specs.declared.WordsError.TheVariants.{Unknown, Twice}
 use Rattle.plan_words.specs.Word.{meaning}
-use Rattle.plan_words.specs.Line.{Word, placed, is_end, key_of, is_given, with_setting, refused, finished, settled, words_of}
+use Rattle.plan_words.specs.Line.{Word, place_of, placed, is_end, once, finished, settled, words_of}
 
 -- the words from a place on
 abbrev pub words_from : ℕ → List ℕ → List Word
@@ -44,65 +45,54 @@ module _ (text : List ℕ) (i e s : ℕ) (h : i < length text) (f : e ≡ i + re
           let q = drop_of_length-le text {i = s} (omega arith) in
           rw q
 
-  pub first_word : words_from i text ≡ record { at = i; end = e; text = take (e - i) (drop i text) } ∷ words_from s text
+  pub first_word : words_from i text ≡ record { place = place_of i e; text = take (e - i) (drop i text) } ∷ words_from s text
   first_word =
       ap (placed i) (pieces_at is_end text i e s h f g)
       ∙ ap
-      (λ (n : ℕ). record { at = i; end = n; text = take (e - i) (drop i text) } ∷ placed (n + 1) (pieces is_end (drop s text)))
+      (λ (n : ℕ). record { place = place_of i n; text = take (e - i) (drop i text) } ∷ placed (n + 1) (pieces is_end (drop s text)))
       ends
-      ∙ ap (λ (ws : List Word). record { at = i; end = e; text = take (e - i) (drop i text) } ∷ ws) next
+      ∙ ap (λ (ws : List Word). record { place = place_of i e; text = take (e - i) (drop i text) } ∷ ws) next
 
 -- ---- the answer
 
 module _ (s : Settings) (w : Word) (ws : List Word) where
-  pub unknown : key_of (meaning w.text) ≡ 8 → settled s (w ∷ ws) ≡ refused Answer.Unknown w.at w.end
+  unknown : None ≡ meaning w.text → settled s (w ∷ ws) ≡ Err (Unknown w.place)
   unfolding settled
-  unknown e = rw (eq-eqb (key_of (meaning w.text)) 8 e)
+  unknown e = rw (sym e)
 
-  module _ (h : key_of (meaning w.text) ≡ 8 → ⊥) where
-    pub twice : is_given s (key_of (meaning w.text)) ≡ true → settled s (w ∷ ws) ≡ refused Answer.Twice w.at w.end
+  module _ (m : Setting) (known : Some m ≡ meaning w.text) where
+    twice : None ≡ once s m → settled s (w ∷ ws) ≡ Err (Twice w.place)
     unfolding settled
-    twice e = rw (ne_eqb (key_of (meaning w.text)) 8 h, e)
+    twice e = rw (sym known, sym e)
 
-    pub once : is_given s (key_of (meaning w.text)) ≡ false → settled s (w ∷ ws) ≡ settled (with_setting s (meaning w.text)) ws
+    one_more : (t : Settings) → Some t ≡ once s m → settled s (w ∷ ws) ≡ settled t ws
     unfolding settled
-    once e = rw (ne_eqb (key_of (meaning w.text)) 8 h, e)
+    one_more t e = rw (sym known, sym e)
 
 pub at_last : (s : Settings) (text : List ℕ) (i : ℕ) → length text ≤ i → settled s (words_from i text) ≡ finished s
 unfolding settled
 at_last s text i h = rw (drop_of_length-le text h)
 
--- ---- as the code meets a word: what it means, and the number of its key
+-- ---- as the code meets a word
 
 module _ (text : List ℕ) (st : Settings) (i e : ℕ) (h : i < length text) (f : e ≡ i + reach is_end (drop i text))
-    (left : words_of text ≡ settled st (words_from i text)) (m : Setting) (means : m ≡ meaning (take (e - i) (drop i text)))
-    (k : ℕ) (is : k ≡ key_of m) where
+    (left : words_of text ≡ settled st (words_from i text)) where
   word : Word
-  word = record { at = i; end = e; text = take (e - i) (drop i text) }
-
-  key : k ≡ key_of (meaning word.text)
-  unfolding word
-  key = is ∙ ap key_of means
+  word = record { place = place_of i e; text = take (e - i) (drop i text) }
 
   met : (s : ℕ) → s ≡ min (e + 1) (length text) → words_of text ≡ settled st (word ∷ words_from s text)
   unfolding word
   met s g = left ∙ ap (settled st) (first_word text i e s h f g)
 
-  pub at_unknown : k ≡ 8 → words_of text ≡ refused Answer.Unknown i e
+  pub at_unknown : None ≡ meaning (take (e - i) (drop i text)) → words_of text ≡ Err (Unknown (place_of i e))
   unfolding word
-  at_unknown q = let s = min (e + 1) (length text) in met s refl ∙ unknown st word (words_from s text) (sym key ∙ q)
+  at_unknown q = let s = min (e + 1) (length text) in met s refl ∙ unknown st word (words_from s text) q
 
-  module _ (known : k ≡ 8 → ⊥) where
-    pub at_twice : is_given st k ≡ true → words_of text ≡ refused Answer.Twice i e
+  module _ (m : Setting) (known : Some m ≡ meaning (take (e - i) (drop i text))) where
+    pub at_twice : None ≡ once st m → words_of text ≡ Err (Twice (place_of i e))
     unfolding word
-    at_twice q =
-        let s = min (e + 1) (length text) in
-        met s refl ∙ twice st word (words_from s text) (λ z. known (key ∙ z)) (ap (is_given st) (sym key) ∙ q)
+    at_twice q = let s = min (e + 1) (length text) in met s refl ∙ twice st word (words_from s text) m known q
 
-    pub at_once : (s : ℕ) (next : Settings) → s ≡ min (e + 1) (length text) → next ≡ with_setting st m → is_given st k ≡ false
-        → words_of text ≡ settled next (words_from s text)
+    pub at_once : (s : ℕ) (t : Settings) → s ≡ min (e + 1) (length text) → Some t ≡ once st m → words_of text ≡ settled t (words_from s text)
     unfolding word
-    at_once s _ g n q =
-        met s g
-        ∙ once st word (words_from s text) (λ z. known (key ∙ z)) (ap (is_given st) (sym key) ∙ q)
-        ∙ ap (λ (t : Settings). settled t (words_from s text)) (sym (n ∙ ap (with_setting st) means))
+    at_once s t g q = met s g ∙ one_more st word (words_from s text) m known t q

@@ -1,104 +1,79 @@
 -- The words of a command line in order: the header and the ancillary bits that they set, or the first word that is not accepted.
-use Rattle.std.specs.Prelude.{ℕ, ◌+◌, Bool, true, false, not, cond, List, [], ◌∷◌, eqb, length, get_or, set, replicate}
-use Rattle.header.specs.declared.FrameHeader.{FrameHeader}
+use Rattle.std.specs.Prelude.{ℕ, ◌+◌, Bool, false, not, cond, List, [], ◌∷◌, eqb, length, Option, Some, None, is_some, unwrap_or, Result, Ok, Err}
 use Rattle.header.specs.declared.Mode.{Mode}
 use Rattle.header.specs.declared.Mode.TheVariants.{Stereo}
 use Rattle.header.specs.declared.ModeExtension.{ModeExtension}
 use Rattle.header.specs.declared.ModeExtension.TheVariants.{Bound4}
 use Rattle.plan_text.specs.Bytes.{pieces}
 use Rattle.plan_words.specs.declared.Setting.{Setting}
-use Rattle.plan_words.specs.declared.Setting.TheVariants.{SampleRate, BitRate, Channels, Bound, Lsf, Padding, Crc, Ancillary, Unknown}
+use Rattle.plan_words.specs.declared.Setting.TheVariants.{SampleRate, BitRate, Channels, Bound, Lsf, Padding, Crc, Ancillary}
 use Rattle.plan_words.specs.declared.Settings.{Settings}
+use Rattle.plan_words.specs.declared.WordPlace.{WordPlace}
 use Rattle.plan_words.specs.declared.Words.{Words}
-use Rattle.plan_words.specs.declared.WordsAnswer.{WordsAnswer}
-use Rattle.plan_words.specs.declared.WordsAnswer.TheVariants as Answer
+use Rattle.plan_words.specs.declared.WordsError.{WordsError}
+use Rattle.plan_words.specs.declared.WordsError.TheVariants.{Unknown, Twice, NoSampleRate, NoBitRate}
 use Rattle.plan_words.specs.Word.{meaning}
 
 -- ---- one setting
 
--- the number of its key; 8 is no key
-abbrev pub key_of : Setting → ℕ
-key_of (SampleRate n) = 0
-key_of (BitRate n) = 1
-key_of (Channels m) = 2
-key_of (Bound e) = 3
-key_of (Lsf b) = 4
-key_of (Padding b) = 5
-key_of (Crc b) = 6
-key_of (Ancillary n) = 7
-key_of Unknown = 8
-
--- a header of its fields: lsf, bit rate, sample rate, padding, mode, mode extension, protection bit
-abbrev pub header_of : Bool → ℕ → ℕ → Bool → Mode → ModeExtension → Bool → FrameHeader
-header_of l r f p m e c = record {
-  lsf = l;
-  bit_rate = r;
+-- the settings of their fields
+abbrev pub settings_of : Option ℕ → Option ℕ → Option Mode → Option ModeExtension → Option Bool → Option Bool → Option Bool → Option ℕ → Settings
+settings_of f r m e l p c b = record {
   sample_rate = f;
-  padding = p;
+  bit_rate = r;
   mode = m;
-  mode_extension = e;
-  protection_bit = c;
+  bound = e;
+  lsf = l;
+  padding = p;
+  crc = c;
+  ancillary = b;
 }
 
--- the header with it; a CRC is carried where the protection bit is false
-abbrev pub header_with : FrameHeader → Setting → FrameHeader
-header_with h (SampleRate n) =
-    header_of h.lsf h.bit_rate n h.padding h.mode h.mode_extension h.protection_bit
-header_with h (BitRate n) =
-    header_of h.lsf n h.sample_rate h.padding h.mode h.mode_extension h.protection_bit
-header_with h (Channels m) =
-    header_of h.lsf h.bit_rate h.sample_rate h.padding m h.mode_extension h.protection_bit
-header_with h (Bound e) =
-    header_of h.lsf h.bit_rate h.sample_rate h.padding h.mode e h.protection_bit
-header_with h (Lsf b) =
-    header_of b h.bit_rate h.sample_rate h.padding h.mode h.mode_extension h.protection_bit
-header_with h (Padding b) =
-    header_of h.lsf h.bit_rate h.sample_rate b h.mode h.mode_extension h.protection_bit
-header_with h (Crc b) =
-    header_of h.lsf h.bit_rate h.sample_rate h.padding h.mode h.mode_extension (not b)
-header_with h (Ancillary n) = h
-header_with h Unknown = h
+-- before the first word
+unfoldable pub nothing_set : Settings
+nothing_set = settings_of None None None None None None None None
 
--- the ancillary bits with it
-abbrev pub banc_with : ℕ → Setting → ℕ
-banc_with banc (SampleRate n) = banc
-banc_with banc (BitRate n) = banc
-banc_with banc (Channels m) = banc
-banc_with banc (Bound e) = banc
-banc_with banc (Lsf b) = banc
-banc_with banc (Padding b) = banc
-banc_with banc (Crc b) = banc
-banc_with banc (Ancillary n) = n
-banc_with banc Unknown = banc
+-- the settings with it
+abbrev pub with_setting : Settings → Setting → Settings
+with_setting s (SampleRate n) = settings_of (Some n) s.bit_rate s.mode s.bound s.lsf s.padding s.crc s.ancillary
+with_setting s (BitRate n) = settings_of s.sample_rate (Some n) s.mode s.bound s.lsf s.padding s.crc s.ancillary
+with_setting s (Channels m) = settings_of s.sample_rate s.bit_rate (Some m) s.bound s.lsf s.padding s.crc s.ancillary
+with_setting s (Bound e) = settings_of s.sample_rate s.bit_rate s.mode (Some e) s.lsf s.padding s.crc s.ancillary
+with_setting s (Lsf b) = settings_of s.sample_rate s.bit_rate s.mode s.bound (Some b) s.padding s.crc s.ancillary
+with_setting s (Padding b) = settings_of s.sample_rate s.bit_rate s.mode s.bound s.lsf (Some b) s.crc s.ancillary
+with_setting s (Crc b) = settings_of s.sample_rate s.bit_rate s.mode s.bound s.lsf s.padding (Some b) s.ancillary
+with_setting s (Ancillary n) = settings_of s.sample_rate s.bit_rate s.mode s.bound s.lsf s.padding s.crc (Some n)
 
--- the settings with it, and its key given
-unfoldable pub with_setting : Settings → Setting → Settings
-with_setting s m = record {
-  header = header_with s.header m;
-  banc = banc_with s.banc m;
-  given = set s.given (key_of m) true;
-}
+-- whether its key was given
+abbrev pub is_given : Settings → Setting → Bool
+is_given s (SampleRate n) = is_some s.sample_rate
+is_given s (BitRate n) = is_some s.bit_rate
+is_given s (Channels m) = is_some s.mode
+is_given s (Bound e) = is_some s.bound
+is_given s (Lsf b) = is_some s.lsf
+is_given s (Padding b) = is_some s.padding
+is_given s (Crc b) = is_some s.crc
+is_given s (Ancillary n) = is_some s.ancillary
 
--- what holds where no word sets anything: stereo, a bound of 4, no CRC
-unfoldable pub defaults : Settings
-defaults = record {
-  header = header_of false 0 0 false Stereo Bound4 true;
-  banc = 0;
-  given = replicate 8 false;
-}
+-- the settings with it, where its key was not given
+abbrev pub once : Settings → Setting → Option Settings
+once s m = cond (is_given s m) None (Some (with_setting s m))
 
 -- ---- the words of a line
 
--- a word and its place: from `at` to before `end`
+-- a word and its place
 pub record Word : Type 0 where
-  pub at : ℕ
-  pub end : ℕ
+  pub place : WordPlace
   pub text : List ℕ
+
+-- from `at` to before `end`
+abbrev pub place_of : ℕ → ℕ → WordPlace
+place_of at end = record { at = at; end = end }
 
 -- words one behind the other, each ended by one byte
 abbrev pub placed : ℕ → List (List ℕ) → List Word
 placed at [] = []
-placed at (w ∷ ws) = record { at = at; end = at + length w; text = w } ∷ placed (at + length w + 1) ws
+placed at (w ∷ ws) = record { place = place_of at (at + length w); text = w } ∷ placed (at + length w + 1) ws
 
 -- the byte 0 ends a word
 abbrev pub is_end : ℕ → Bool
@@ -106,34 +81,41 @@ is_end b = eqb b 0
 
 -- ---- the answer
 
--- an answer with a place; header and ancillary bits are the defaults
-unfoldable pub refused : WordsAnswer → ℕ → ℕ → Words
-refused answer at end = record { answer = answer; at = at; end = end; header = defaults.header; banc = 0 }
+-- by whether there is a value
+abbrev pub where_some : {A B : Type 0} → Option A → B → (A → B) → B
+where_some None other f = other
+where_some (Some x) other f = f x
 
-unfoldable pub accepted : Settings → Words
-accepted s = record { answer = Answer.Accepted; at = 0; end = 0; header = s.header; banc = s.banc }
-
--- whether a key was given
-abbrev pub is_given : Settings → ℕ → Bool
-is_given s key = get_or s.given key false
+-- with a sample rate and a bit rate. Where no word says otherwise: stereo, a bound of 4, no CRC. A CRC is carried where the protection bit is false
+abbrev pub accepted : Settings → ℕ → ℕ → Words
+accepted s f r = record {
+  header = record {
+    lsf = unwrap_or s.lsf false;
+    bit_rate = r;
+    sample_rate = f;
+    padding = unwrap_or s.padding false;
+    mode = unwrap_or s.mode Stereo;
+    mode_extension = unwrap_or s.bound Bound4;
+    protection_bit = not (unwrap_or s.crc false);
+  };
+  banc = unwrap_or s.ancillary 0;
+}
 
 -- where every word is accepted: fs has to be given, and then the rate
-unfoldable pub finished : Settings → Words
+unfoldable pub finished : Settings → Result Words WordsError
 finished s =
-    cond (is_given s 0)
-    (cond (is_given s 1)
-    (accepted s)
-    (refused Answer.NoBitRate 0 0))
-    (refused Answer.NoSampleRate 0 0)
+    where_some s.sample_rate (Err NoSampleRate)
+    (λ f. where_some s.bit_rate (Err NoBitRate)
+    (λ r. Ok (accepted s f r)))
 
 -- the answer to words, where `s` is set by those before them
-unfoldable pub settled : Settings → List Word → Words
+unfoldable pub settled : Settings → List Word → Result Words WordsError
 settled s [] = finished s
 settled s (w ∷ ws) =
-    cond (eqb (key_of (meaning w.text)) 8) (refused Answer.Unknown w.at w.end)
-    (cond (is_given s (key_of (meaning w.text))) (refused Answer.Twice w.at w.end)
-    (settled (with_setting s (meaning w.text)) ws))
+    where_some (meaning w.text) (Err (Unknown w.place))
+    (λ m. where_some (once s m) (Err (Twice w.place))
+    (λ t. settled t ws))
 
 -- the whole answer
-unfoldable pub words_of : List ℕ → Words
-words_of line = settled defaults (placed 0 (pieces is_end line))
+unfoldable pub words_of : List ℕ → Result Words WordsError
+words_of line = settled nothing_set (placed 0 (pieces is_end line))

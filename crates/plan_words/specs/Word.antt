@@ -1,14 +1,14 @@
 -- The words of a command line, and what each of them sets.
-use Rattle.std.specs.Prelude.{ℕ, true, false, cond, List, [], ◌∷◌, ◌++◌, eqb, length, take, drop}
+use Rattle.std.specs.Prelude.{ℕ, true, false, cond, List, [], ◌∷◌, ◌++◌, eqb, length, take, drop, Option, Some, None, option_map}
+use Rattle.std.specs.Option.{option_or}
 use Prim.Native.String.{String}
-use Rattle.std.proofs.Math.Option.{Option, none, some}
 use Rattle.header.specs.declared.Mode.TheVariants.{Stereo, JointStereo, DualChannel, SingleChannel}
 use Rattle.header.specs.declared.ModeExtension.TheVariants.{Bound4, Bound8, Bound12, Bound16}
 use Rattle.plan_text.specs.Bytes.{same}
 use Rattle.plan_text.specs.Digits.{number_to}
 use Rattle.plan_text.specs.Quoted.{text}
 use Rattle.plan_words.specs.declared.Setting.{Setting}
-use Rattle.plan_words.specs.declared.Setting.TheVariants.{SampleRate, BitRate, Channels, Bound, Lsf, Padding, Crc, Ancillary, Unknown}
+use Rattle.plan_words.specs.declared.Setting.TheVariants.{SampleRate, BitRate, Channels, Bound, Lsf, Padding, Crc, Ancillary}
 
 -- ---- words that stand for themselves
 
@@ -47,33 +47,27 @@ flag_words =
     ∷ []
 
 -- what the first entry of a table with that word sets, and `other` where there is none
-unfoldable pub lookup : List Named → Setting → List ℕ → Setting
+unfoldable pub lookup : List Named → Option Setting → List ℕ → Option Setting
 lookup [] other w = other
-lookup (n ∷ ns) other w = cond (same w (text n.word)) n.sets (lookup ns other w)
+lookup (n ∷ ns) other w = cond (same w (text n.word)) (Some n.sets) (lookup ns other w)
 
 -- ---- words with a number
 
 -- one digit or more, and a number of 32 bits
 unfoldable pub number : List ℕ → Option ℕ
-number v = cond (eqb (length v) 0) none (number_to 4_294_967_295 v)
+number v = cond (eqb (length v) 0) None (number_to 4_294_967_295 v)
 
 -- the number behind a key
 unfoldable pub value_after : List ℕ → List ℕ → Option ℕ
-value_after key w = cond (same (take (length key) w) key) (number (drop (length key) w)) none
+value_after key w = cond (same (take (length key) w) key) (number (drop (length key) w)) None
 
--- what the number sets, where there is one
-abbrev pub where_read : (ℕ → Setting) → Option ℕ → Setting → Setting
-where_read f (some n) other = f n
-where_read f none other = other
-
-unfoldable pub number_word : List ℕ → Setting
+unfoldable pub number_word : List ℕ → Option Setting
 number_word w =
-    where_read SampleRate (value_after (text "fs=") w)
-    (where_read BitRate (value_after (text "rate=") w)
-    (where_read Ancillary (value_after (text "ancillary=") w)
-    Unknown))
+    option_or
+    (option_or (option_map SampleRate (value_after (text "fs=") w)) (option_map BitRate (value_after (text "rate=") w)))
+    (option_map Ancillary (value_after (text "ancillary=") w))
 
 -- ---- any word
 
-unfoldable pub meaning : List ℕ → Setting
+unfoldable pub meaning : List ℕ → Option Setting
 meaning w = lookup (mode_words ++ bound_words ++ flag_words) (number_word w) w

@@ -1,14 +1,11 @@
 // Reading the words of a command line: a frame header and the ancillary bits.
 #![tactic(auto)]
 
-ghost use Rattle.std.specs.Prelude.{◌≡◌, ◌++◌, ◌<◌};
-ghost use Rattle.plan_text.specs.Digits.{option_of};
-ghost use Rattle.plan_words.specs.Word.{bound_words, flag_words, lookup, number_word, meaning, number, value_after};
-ghost use Rattle.plan_words.specs.Line.{key_of, header_with, banc_with, with_setting, defaults, is_given, refused, words_of, finished};
-ghost use Rattle.plan_words.specs.Key.{KeyIs};
+ghost use Rattle.std.specs.Prelude.{◌≡◌};
+ghost use Rattle.plan_words.specs.Word.{number_word, meaning, number, value_after};
+ghost use Rattle.plan_words.specs.Line.{nothing_set, once, words_of, finished};
 
 use header::{FrameHeader, Mode, ModeExtension};
-use plan_text::OptionU64;
 
 // What a word sets.
 #[derive(Clone, Copy)]
@@ -29,132 +26,74 @@ enum Setting {
     Crc(bool),
     // ancillary=
     Ancillary(u32),
-    // No word of the table.
-    Unknown,
 }
 
-// What a word means.
-fn read_word(word: &[u8]) -> Setting
+// The words that stand for themselves, and what each of them sets.
+const NAMED: [(&[u8], Setting); 14] = [
+    (b"mode=stereo", Setting::Channels(Mode::Stereo)),
+    (b"mode=joint", Setting::Channels(Mode::JointStereo)),
+    (b"mode=dual", Setting::Channels(Mode::DualChannel)),
+    (b"mode=single", Setting::Channels(Mode::SingleChannel)),
+    (b"bound=4", Setting::Bound(ModeExtension::Bound4)),
+    (b"bound=8", Setting::Bound(ModeExtension::Bound8)),
+    (b"bound=12", Setting::Bound(ModeExtension::Bound12)),
+    (b"bound=16", Setting::Bound(ModeExtension::Bound16)),
+    (b"lsf=0", Setting::Lsf(false)),
+    (b"lsf=1", Setting::Lsf(true)),
+    (b"padding=0", Setting::Padding(false)),
+    (b"padding=1", Setting::Padding(true)),
+    (b"crc=0", Setting::Crc(false)),
+    (b"crc=1", Setting::Crc(true)),
+];
+
+// What a word means; nothing where it is not known, or its value cannot be read.
+fn read_word(word: &[u8]) -> Option<Setting>
     ensures { result ≡ meaning word.now }
 {
-    if plan_text::same(word, b"mode=stereo") {
-        return Setting::Channels(Mode::Stereo);
-    }
-    if plan_text::same(word, b"mode=joint") {
-        return Setting::Channels(Mode::JointStereo);
-    }
-    if plan_text::same(word, b"mode=dual") {
-        return Setting::Channels(Mode::DualChannel);
-    }
-    if plan_text::same(word, b"mode=single") {
-        return Setting::Channels(Mode::SingleChannel);
-    }
-    bound_word(word)
-}
-
-// The same from the bounds on.
-fn bound_word(word: &[u8]) -> Setting
-    ensures { result ≡ lookup (bound_words ++ flag_words) (number_word word.now) word.now }
-{
-    if plan_text::same(word, b"bound=4") {
-        return Setting::Bound(ModeExtension::Bound4);
-    }
-    if plan_text::same(word, b"bound=8") {
-        return Setting::Bound(ModeExtension::Bound8);
-    }
-    if plan_text::same(word, b"bound=12") {
-        return Setting::Bound(ModeExtension::Bound12);
-    }
-    if plan_text::same(word, b"bound=16") {
-        return Setting::Bound(ModeExtension::Bound16);
-    }
-    flag_word(word)
-}
-
-// The same from the flags on.
-fn flag_word(word: &[u8]) -> Setting
-    ensures { result ≡ lookup flag_words (number_word word.now) word.now }
-{
-    if plan_text::same(word, b"lsf=0") {
-        return Setting::Lsf(false);
-    }
-    if plan_text::same(word, b"lsf=1") {
-        return Setting::Lsf(true);
-    }
-    if plan_text::same(word, b"padding=0") {
-        return Setting::Padding(false);
-    }
-    if plan_text::same(word, b"padding=1") {
-        return Setting::Padding(true);
-    }
-    if plan_text::same(word, b"crc=0") {
-        return Setting::Crc(false);
-    }
-    if plan_text::same(word, b"crc=1") {
-        return Setting::Crc(true);
-    }
-    number_word(word)
+    plan_text::look_up(&NAMED, word).or(number_word(word))
 }
 
 // The words with a number.
-fn number_word(word: &[u8]) -> Setting
+fn number_word(word: &[u8]) -> Option<Setting>
     ensures { result ≡ number_word word.now }
 {
-    let fs = value_after(word, b"fs=");
-    if let OptionU64::Some(n) = fs {
-        return Setting::SampleRate(n as u32);
-    }
-    let rate = value_after(word, b"rate=");
-    if let OptionU64::Some(n) = rate {
-        return Setting::BitRate(n as u32);
-    }
-    let ancillary = value_after(word, b"ancillary=");
-    if let OptionU64::Some(n) = ancillary {
-        return Setting::Ancillary(n as u32);
-    }
-    Setting::Unknown
+    let sample_rate = value_after(word, b"fs=").map(Setting::SampleRate);
+    let bit_rate = value_after(word, b"rate=").map(Setting::BitRate);
+    let ancillary = value_after(word, b"ancillary=").map(Setting::Ancillary);
+    sample_rate.or(bit_rate).or(ancillary)
 }
 
 // The number behind a key that the word starts with.
-fn value_after(word: &[u8], key: &[u8]) -> OptionU64
-    ensures { option_of result ≡ value_after key.now word.now }
+fn value_after(word: &[u8], key: &[u8]) -> Option<u32>
+    ensures { result ≡ value_after key.now word.now }
 {
-    let start = key.len();
-    if word.len() < start {
-        return OptionU64::None;
-    }
-    if plan_text::same(&word[..start], key) {
-        return read_number(&word[start..]);
-    }
-    OptionU64::None
+    read_number(word.strip_prefix(key)?)
 }
 
 // A number of 32 bits in decimal digits.
-fn read_number(text: &[u8]) -> OptionU64
-    ensures { option_of result ≡ number text.now }
+fn read_number(text: &[u8]) -> Option<u32>
+    ensures { result ≡ number text.now }
 {
-    if text.len() == 0 {
-        return OptionU64::None;
+    if text.is_empty() {
+        return None;
     }
-    let read = plan_text::read_digits(text);
-    let OptionU64::Some(n) = read else {
-        return OptionU64::None;
-    };
-    if n <= 4_294_967_295 {
-        OptionU64::Some(n)
-    } else {
-        OptionU64::None
-    }
+    u32::try_from(plan_text::read_digits(text)?).ok()
 }
 
-// What `read_words` answers.
+// Where a word stands on the line: from `at` to before `end`.
 #[derive(Clone, Copy)]
-pub enum WordsAnswer {
-    Accepted,
+pub struct WordPlace {
+    pub at: usize,
+    pub end: usize,
+}
+
+// Why `read_words` refuses.
+#[derive(Clone, Copy)]
+pub enum WordsError {
     // A word that is not known, or whose value cannot be read.
-    Unknown,
+    Unknown(WordPlace),
     // A key that was given before.
-    Twice,
+    Twice(WordPlace),
     // No word gives fs.
     NoSampleRate,
     // No word gives the rate.
@@ -164,204 +103,91 @@ pub enum WordsAnswer {
 // The header and the ancillary bits of a command line.
 #[derive(Clone, Copy)]
 pub struct Words {
-    pub answer: WordsAnswer,
-    // Where the word is that is not accepted: from `at` to before `end`.
-    pub at: usize,
-    pub end: usize,
     pub header: FrameHeader,
     pub banc: u32,
 }
 
 // The words of a command line, each ended by a byte 0.
-pub fn read_words(words: &[u8]) -> Words
+pub fn read_words(words: &[u8]) -> Result<Words, WordsError>
     ensures { result ≡ words_of words.now }
 {
-    let mut settings = defaults();
+    let mut settings = Settings::nothing();
     let mut at = 0;
+    // A `while` over places and no iterator over the pieces: a refusal names the place of its word.
     while at < words.len() {
         let end = plan_text::find_byte(words, at, 0);
-        let setting = read_word(&words[at..end]);
-        let key = key_of(setting);
-        if key == 8 {
-            return refused(WordsAnswer::Unknown, at, end);
-        }
-        if is_given(settings, key) {
-            return refused(WordsAnswer::Twice, at, end);
-        }
-        settings = with_setting(settings, setting);
+        let place = WordPlace { at, end };
+        let setting = read_word(&words[at..end]).ok_or(WordsError::Unknown(place))?;
+        settings = settings.with(setting).ok_or(WordsError::Twice(place))?;
         at = plan_text::past(end, words.len());
     }
-    finished(settings)
+    settings.finished()
 }
 
-// What the words before have set, and which keys they gave, by the number of the key.
+// What the words before have set.
 #[derive(Clone, Copy)]
 struct Settings {
-    header: FrameHeader,
-    banc: u32,
-    given: [bool; 8],
+    sample_rate: Option<u32>,
+    bit_rate: Option<u32>,
+    mode: Option<Mode>,
+    bound: Option<ModeExtension>,
+    lsf: Option<bool>,
+    padding: Option<bool>,
+    crc: Option<bool>,
+    ancillary: Option<u32>,
 }
 
-fn defaults() -> Settings
-    ensures { result ≡ defaults }
-{
-    let header = FrameHeader {
-        lsf: false,
-        bit_rate: 0,
-        sample_rate: 0,
-        padding: false,
-        mode: Mode::Stereo,
-        mode_extension: ModeExtension::Bound4,
-        protection_bit: true,
-    };
-    let given = [false; 8];
-    Settings {
-        header,
-        banc: 0,
-        given,
-    }
-}
-
-// The number of a setting's key; 8 is no key.
-fn key_of(setting: Setting) -> usize
-    ensures { KeyIs setting result }
-{
-    match setting {
-        Setting::SampleRate(_) => 0,
-        Setting::BitRate(_) => 1,
-        Setting::Channels(_) => 2,
-        Setting::Bound(_) => 3,
-        Setting::Lsf(_) => 4,
-        Setting::Padding(_) => 5,
-        Setting::Crc(_) => 6,
-        Setting::Ancillary(_) => 7,
-        Setting::Unknown => 8,
-    }
-}
-
-// Whether a word before gave the key.
-fn is_given(settings: Settings, key: usize) -> bool
-    requires { key < 8 }
-    ensures { result ≡ is_given settings key }
-{
-    let given = settings.given;
-    given[key]
-}
-
-// The settings with one more.
-fn with_setting(settings: Settings, setting: Setting) -> Settings
-    requires { key_of setting < 8 }
-    ensures { result ≡ with_setting settings setting }
-{
-    let key = key_of(setting);
-    let header = header_with(settings.header, setting);
-    let banc = banc_with(settings.banc, setting);
-    let mut given = settings.given;
-    given[key] = true;
-    Settings {
-        header,
-        banc,
-        given,
-    }
-}
-
-fn banc_with(banc: u32, setting: Setting) -> u32
-    ensures { result ≡ banc_with banc setting }
-{
-    match setting {
-        Setting::Ancillary(n) => n,
-        Setting::SampleRate(_) => banc,
-        Setting::BitRate(_) => banc,
-        Setting::Channels(_) => banc,
-        Setting::Bound(_) => banc,
-        Setting::Lsf(_) => banc,
-        Setting::Padding(_) => banc,
-        Setting::Crc(_) => banc,
-        Setting::Unknown => banc,
-    }
-}
-
-fn header_with(header: FrameHeader, setting: Setting) -> FrameHeader
-    ensures { result ≡ header_with header setting }
-{
-    let mut h = header;
-    match setting {
-        Setting::SampleRate(n) => h.sample_rate = n,
-        Setting::BitRate(n) => h.bit_rate = n,
-        Setting::Channels(mode) => return with_mode(h, mode),
-        Setting::Bound(bound) => return with_bound(h, bound),
-        Setting::Lsf(on) => h.lsf = on,
-        Setting::Padding(on) => h.padding = on,
-        Setting::Crc(on) => h.protection_bit = !on,
-        Setting::Ancillary(_) => return h,
-        Setting::Unknown => return h,
-    }
-    h
-}
-
-fn with_mode(h: FrameHeader, mode: Mode) -> FrameHeader
-    ensures { result ≡ header_with h (Setting.Channels mode) }
-{
-    let mode_extension = h.mode_extension;
-    FrameHeader {
-        lsf: h.lsf,
-        bit_rate: h.bit_rate,
-        sample_rate: h.sample_rate,
-        padding: h.padding,
-        mode,
-        mode_extension,
-        protection_bit: h.protection_bit,
-    }
-}
-
-fn with_bound(h: FrameHeader, mode_extension: ModeExtension) -> FrameHeader
-    ensures { result ≡ header_with h (Setting.Bound mode_extension) }
-{
-    let mode = h.mode;
-    FrameHeader {
-        lsf: h.lsf,
-        bit_rate: h.bit_rate,
-        sample_rate: h.sample_rate,
-        padding: h.padding,
-        mode,
-        mode_extension,
-        protection_bit: h.protection_bit,
-    }
-}
-
-// An answer with a place, beside the defaults.
-fn refused(answer: WordsAnswer, at: usize, end: usize) -> Words
-    ensures { result ≡ refused answer at end }
-{
-    let settings = defaults();
-    let header = settings.header;
-    Words {
-        answer,
-        at,
-        end,
-        header,
-        banc: 0,
-    }
-}
-
-// The answer behind the last word.
-fn finished(settings: Settings) -> Words
-    ensures { result ≡ finished settings }
-{
-    if is_given(settings, 0) {
-        if is_given(settings, 1) {
-            let header = settings.header;
-            Words {
-                answer: WordsAnswer::Accepted,
-                at: 0,
-                end: 0,
-                header,
-                banc: settings.banc,
-            }
-        } else {
-            refused(WordsAnswer::NoBitRate, 0, 0)
+impl Settings {
+    fn nothing() -> Settings
+        ensures { result ≡ nothing_set }
+    {
+        Settings {
+            sample_rate: None,
+            bit_rate: None,
+            mode: None,
+            bound: None,
+            lsf: None,
+            padding: None,
+            crc: None,
+            ancillary: None,
         }
-    } else {
-        refused(WordsAnswer::NoSampleRate, 0, 0)
+    }
+
+    // With one more setting; nothing where a word before gave its key.
+    fn with(mut self, setting: Setting) -> Option<Settings>
+        ensures { result ≡ once self setting }
+    {
+        let given = match setting {
+            Setting::SampleRate(n) => self.sample_rate.replace(n).is_some(),
+            Setting::BitRate(n) => self.bit_rate.replace(n).is_some(),
+            Setting::Channels(mode) => self.mode.replace(mode).is_some(),
+            Setting::Bound(bound) => self.bound.replace(bound).is_some(),
+            Setting::Lsf(on) => self.lsf.replace(on).is_some(),
+            Setting::Padding(on) => self.padding.replace(on).is_some(),
+            Setting::Crc(on) => self.crc.replace(on).is_some(),
+            Setting::Ancillary(n) => self.ancillary.replace(n).is_some(),
+        };
+        if given { None } else { Some(self) }
+    }
+
+    // The answer behind the last word.
+    fn finished(self) -> Result<Words, WordsError>
+        ensures { result ≡ finished self }
+    {
+        let sample_rate = self.sample_rate.ok_or(WordsError::NoSampleRate)?;
+        let bit_rate = self.bit_rate.ok_or(WordsError::NoBitRate)?;
+        let header = FrameHeader {
+            lsf: self.lsf.unwrap_or(false),
+            bit_rate,
+            sample_rate,
+            padding: self.padding.unwrap_or(false),
+            mode: self.mode.unwrap_or(Mode::Stereo),
+            mode_extension: self.bound.unwrap_or(ModeExtension::Bound4),
+            protection_bit: !self.crc.unwrap_or(false),
+        };
+        Ok(Words {
+            header,
+            banc: self.ancillary.unwrap_or(0),
+        })
     }
 }

@@ -6,47 +6,35 @@ use Prim.Native.Nat.{ℕ, ◌≤◌, ◌<◌}
 use lib.Ieee.{Float}
 use lib.ListN.{length}
 use borrow.Author.Tests.{le-leb, lt-leb}
+use Rattle.std.specs.Prelude.{Result, Ok, Err}
 use Rattle.header.specs.declared.FrameHeader.{FrameHeader}
 use Rattle.layout.specs.Slots.{smr_rows}
 use Rattle.plan_words.specs.declared.Words.{Words}
+use Rattle.plan_words.specs.declared.WordsError.{WordsError}
 use Rattle.plan_words.specs.Line.{words_of}
 use Rattle.plan_ratios.specs.declared.Ratios.{Ratios}
-use Rattle.plan_ratios.specs.declared.RatiosAnswer.{RatiosAnswer}
-use Rattle.plan_ratios.specs.declared.RatiosAnswer.TheVariants as Ratio
+use Rattle.plan_ratios.specs.declared.RatiosError.{RatiosError}
 use Rattle.plan_ratios.specs.Ratios.{ratios_of}
 use Rattle.plan_page.specs.Page.{page_of}
-use Rattle.word_notes.specs.Notes.{words_accepted, words_line, long_words_line, long_input_line}
+use Rattle.word_notes.specs.Notes.{words_line, long_words_line, long_input_line}
 use Rattle.planner.specs.Notes.{ratios_line}
-use Rattle.planner.specs.Planner.{slots_for, ratios_accepted, with_ratios, with_words, plan_of}
-
--- ---- with ratios
-
-module _ (h : FrameHeader) (banc : ℕ) (r : Ratios) where
-  pub good_ratios : r.answer ≡ Ratio.Accepted → (smr : List (List Float)) → smr ≡ smr_rows r.ratios → page_of h banc smr ≡ with_ratios h banc r
-  unfolding with_ratios
-  good_ratios e smr q = rw (ap ratios_accepted e) (ap (page_of h banc) q)
-
-  pub bad_ratios : (a : RatiosAnswer) (t : List ℕ) (slots : ℕ) → r.answer ≡ a → ratios_accepted a ≡ false → slots ≡ slots_for h
-      → t ≡ ratios_line a r.line r.count slots → t ∷ [] ≡ with_ratios h banc r
-  unfolding with_ratios
-  bad_ratios a t slots e f q g =
-      rw (ap ratios_accepted e ∙ f)
-      (ap (λ (s : List ℕ). s ∷ [])
-      (g ∙ ap (λ (x : RatiosAnswer). ratios_line x r.line r.count slots) (sym e) ∙ ap (ratios_line r.answer r.line r.count) q))
+use Rattle.planner.specs.Planner.{slots_for, with_ratios, with_words, by_words, plan_of}
 
 -- ---- with words
 
-module _ (words : List ℕ) (w : Words) (input : List ℕ) where
-  pub good_words : (t : Bool) → t ≡ words_accepted w.answer → t ≡ true → (slots : ℕ) (r : Ratios) → slots ≡ slots_for w.header → r ≡ ratios_of slots input
-      → with_ratios w.header w.banc r ≡ with_words words w input
+module _ (w : Words) (input : List ℕ) (slots : ℕ) (q : slots ≡ slots_for w.header) where
+  given : (r : Result Ratios RatiosError) → r ≡ ratios_of slots input → with_ratios w r ≡ with_words w input
   unfolding with_words
-  good_words t a e channels r q g =
-      rw (sym a ∙ e) (ap (with_ratios w.header w.banc) (g ∙ ap (λ (n : ℕ). ratios_of n input) q))
+  given r e = ap (with_ratios w) (e ∙ ap (λ (n : ℕ). ratios_of n input) q)
 
-  pub bad_words : (b : Bool) (t : List ℕ) → b ≡ words_accepted w.answer → b ≡ false → t ≡ words_line words w.answer w.at w.end
-      → t ∷ [] ≡ with_words words w input
-  unfolding with_words
-  bad_words b t a e g = rw (sym a ∙ e) (ap (λ (s : List ℕ). s ∷ []) g)
+  pub good_ratios : (r : Ratios) → Ok r ≡ ratios_of slots input → (smr : List (List Float)) → smr ≡ smr_rows r.ratios
+      → page_of w.header w.banc smr ≡ with_words w input
+  unfolding with_ratios
+  good_ratios r e smr f = ap (page_of w.header w.banc) f ∙ given (Ok r) e
+
+  pub bad_ratios : (a : RatiosError) → Err a ≡ ratios_of slots input → (t : List ℕ) → t ≡ ratios_line a slots → t ∷ [] ≡ with_words w input
+  unfolding with_ratios
+  bad_ratios a e t f = ap (λ (s : List ℕ). s ∷ []) (f ∙ ap (ratios_line a) q) ∙ given (Err a) e
 
 -- ---- the whole answer
 
@@ -59,6 +47,15 @@ module _ (words input : List ℕ) where
   unfolding plan_of
   input_too_long t l h e = rw (lt-leb 4096 (length words) l, le-leb 65_536 (length input) h) (ap (λ (s : List ℕ). s ∷ []) e)
 
-  pub read : (w : Words) → length words < 4096 → length input < 65_536 → w ≡ words_of words → with_words words w input ≡ plan_of words input
-  unfolding plan_of
-  read w l h e = rw (lt-leb 4096 (length words) l, lt-leb 65_536 (length input) h) (ap (λ (x : Words). with_words words x input) e)
+  module _ (l : length words < 4096) (h : length input < 65_536) where
+    read : (r : Result Words WordsError) → r ≡ words_of words → by_words words input r ≡ plan_of words input
+    unfolding plan_of
+    read r e = rw (lt-leb 4096 (length words) l, lt-leb 65_536 (length input) h) (ap (by_words words input) e)
+
+    pub good_words : (w : Words) → Ok w ≡ words_of words → with_words w input ≡ plan_of words input
+    unfolding by_words
+    good_words w e = read (Ok w) e
+
+    pub bad_words : (e : WordsError) (t : List ℕ) → Err e ≡ words_of words → t ≡ words_line words e → t ∷ [] ≡ plan_of words input
+    unfolding by_words
+    bad_words e t q f = ap (λ (s : List ℕ). s ∷ []) f ∙ read (Err e) q

@@ -1,7 +1,7 @@
 -- The line that stands alone where the ratios cannot be read.
 use Rattle.std.specs.Prelude.{ℕ, List, [], ◌++◌}
-use Rattle.plan_ratios.specs.declared.RatiosAnswer.{RatiosAnswer}
-use Rattle.plan_ratios.specs.declared.RatiosAnswer.TheVariants.{Accepted, CannotRead, TooMany, TooFew}
+use Rattle.plan_ratios.specs.declared.RatiosError.{RatiosError}
+use Rattle.plan_ratios.specs.declared.RatiosError.TheVariants.{NotARatio, TooMany, TooFew}
 use Rattle.plan_text.specs.Quoted.{text}
 use Rattle.text_line.specs.Number.{number_text}
 use Rattle.word_notes.specs.Notes.{on_line}
@@ -17,8 +17,7 @@ too_few_text line count slots =
     on_line line ++ text ": the input ends with " ++ number_text count ++ text " of " ++ number_text slots ++ text " ratios."
 
 -- of ratios that are not accepted: the line of the input, the ratios before, and how many the mode has
-abbrev pub ratios_line : RatiosAnswer → ℕ → ℕ → ℕ → List ℕ
-ratios_line Accepted line count slots = []
-ratios_line CannotRead line count slots = cannot_read_text line
-ratios_line TooMany line count slots = too_many_text line slots
-ratios_line TooFew line count slots = too_few_text line count slots
+abbrev pub ratios_line : RatiosError → ℕ → List ℕ
+ratios_line (NotARatio line count) slots = cannot_read_text line
+ratios_line (TooMany line count) slots = too_many_text line slots
+ratios_line (TooFew line count) slots = too_few_text line count slots

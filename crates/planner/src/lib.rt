@@ -6,11 +6,10 @@ mod notes;
 ghost use Rattle.std.specs.Prelude.{◌≡◌};
 ghost use Rattle.plan_page.specs.Page.{page_of};
 ghost use Rattle.text_line.specs.Page.{LineIs};
-ghost use Rattle.planner.specs.Planner.{slots_for, with_ratios, with_words, plan_of};
+ghost use Rattle.planner.specs.Planner.{slots_for, with_words, plan_of};
 
 use header::FrameHeader;
 use layout::slots;
-use plan_ratios::{Ratios, RatiosAnswer};
 use plan_words::Words;
 use text_line::{PageLine, only};
 
@@ -24,38 +23,21 @@ pub fn plan_line(words: &[u8], input: &[u8], n: usize) -> PageLine
     if 65_536 <= input.len() {
         return only(word_notes::long_input(), n);
     }
-    let read = plan_words::read_words(words);
-    with_words(words, read, input, n)
-}
-
-// With words: what the ratios give, or the line that says what is wrong with the words.
-fn with_words(words: &[u8], read: Words, input: &[u8], n: usize) -> PageLine
-    ensures { LineIs (with_words words.now read input.now) n result }
-{
-    let answer = read.answer;
-    if word_notes::accepted(answer) {
-        let header = read.header;
-        let ratios = plan_ratios::read_ratios(input, slots_for(header));
-        with_ratios(header, read.banc, ratios, n)
-    } else {
-        only(word_notes::words_line(words, read), n)
+    match plan_words::read_words(words) {
+        Ok(read) => with_words(read, input, n),
+        Err(error) => only(word_notes::words_line(words, error), n),
     }
 }
 
-// With ratios: the page, or the line that says what is wrong with them.
-fn with_ratios(header: FrameHeader, banc: u32, read: Ratios, n: usize) -> PageLine
-    ensures { LineIs (with_ratios header banc read) n result }
+// With words: the page of the ratios, or the line that says what is wrong with them.
+fn with_words(words: Words, input: &[u8], n: usize) -> PageLine
+    ensures { LineIs (with_words words input.now) n result }
 {
-    let answer = read.answer;
-    let slots = slots_for(header) as u64;
-    match answer {
-        RatiosAnswer::Accepted => {
-            let ratios = read.ratios;
-            page_line(header, banc, slots::rows(&ratios), n)
-        }
-        RatiosAnswer::CannotRead => only(notes::cannot_read(read.line), n),
-        RatiosAnswer::TooMany => only(notes::too_many(read.line, slots), n),
-        RatiosAnswer::TooFew => only(notes::too_few(read.line, read.count as u64, slots), n),
+    let header = words.header;
+    let wanted = slots_for(header);
+    match plan_ratios::read_ratios(input, wanted) {
+        Ok(read) => page_line(header, words.banc, slots::rows(&read.ratios), n),
+        Err(error) => only(notes::ratios_line(error, wanted as u64), n),
     }
 }
 

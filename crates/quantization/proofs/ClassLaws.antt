@@ -1,8 +1,9 @@
 -- The rule of the classes of quantization, by one test that antt computes over the table, and what follows for a class that is found.
+use Rattle.std.proofs.lemmas.Option.{none-some}
+use Rattle.std.specs.Prelude.{Option, None, Some}
 use mathlib.Core.Path.{◌≡◌, refl, sym, ap, ◌∙◌, subst}
 use mathlib.Core.Bool.{Bool, true, false, not, cond, ◌&&◌, ◌||◌}
 use mathlib.Core.List.{List, [], ◌∷◌}
-use mathlib.Core.Option.{Option, none, some, none-ne-some}
 use Prim.Native.Nat.{ℕ, zero, suc, ◌+◌, ◌-◌, ◌*◌, ◌/◌, ◌^◌, ◌≤◌, ◌<◌}
 use lib.Dec.{T, leb, eqb, leb→le, eqb→eq, lit≤}
 use lib.ListN.{length, get_or}
@@ -18,8 +19,7 @@ use Rattle.tables.proofs.Search.{find_found, find_missing, find_passes, none_pas
 use Rattle.tables.proofs.Keys.{Each, at_key, no_key}
 use types.Run.{OneOf}
 use Rattle.quantization.specs.declared.QuantClass.{QuantClass}
-use Rattle.quantization.specs.declared.OptionClass.TheVariants.{Some, None}
-use Rattle.quantization.specs.Classes.{classes, class_in, class_of, ClassRule, ClassIs, BitsPerSampleAre, SampleBitsAre, sample_bits, frame_bits, grouped, grouping_in, bits_per_sample}
+use Rattle.quantization.specs.Classes.{classes, class_of, ClassRule, ClassIs, BitsPerSampleAre, SampleBitsAre, sample_bits, frame_bits, grouped, grouping_in, bits_per_sample}
 
 -- the rule as one test
 ruled : QuantClass → Bool
@@ -53,7 +53,7 @@ rule_of q t =
     }
 
 -- a class that is found has the steps asked for and keeps the rule
-pub class_rule : (steps : ℕ) (q : QuantClass) → class_of steps ≡ some q → (q.nb_steps ≡ steps) × ClassRule q
+pub class_rule : (steps : ℕ) (q : QuantClass) → class_of steps ≡ Some q → (q.nb_steps ≡ steps) × ClassRule q
 unfolding class_of
 class_rule steps q e =
     let g = find_passes (λ q. eqb q.nb_steps steps) ruled classes q computed e in
@@ -71,10 +71,10 @@ unfolding class_of
 class_found steps i qs d e h b q =
     let b' = rw e at b in
     let q' = rw e at q in
-    let v : class_of steps ≡ some (get_or qs i d) =
+    let v : class_of steps ≡ Some (get_or qs i d) =
     find_found (λ q. eqb q.nb_steps steps) classes i d (rw class_count h) (λ k l. ne_eqb _ _ (b' k l)) (eq-eqb _ _ q')
-    ∙ ap (λ (qs : List QuantClass). some (get_or qs i d)) (sym e) in
-    record { whole = sym v; ruled = λ p r. class_rule steps p (v ∙ ap class_in r) }
+    ∙ ap (λ (qs : List QuantClass). Some (get_or qs i d)) (sym e) in
+    record { whole = sym v; ruled = λ p r. class_rule steps p (v ∙ r) }
 
 pub class_missing : (steps : ℕ) (qs : List QuantClass) (d : QuantClass) → qs ≡ classes
     → ((k : ℕ) → k < 17 → (get_or qs k d).nb_steps ≡ steps → ⊥) → ClassIs steps None
@@ -83,7 +83,7 @@ class_missing steps qs d e b =
     let b' = rw e at b in
     record {
       whole = sym (find_missing (λ q. eqb q.nb_steps steps) classes d (λ k l. ne_eqb _ _ (b' k (rw class_count at l))));
-      ruled = λ p r. absurd (none-ne-some p (ap class_in r));
+      ruled = λ p r. absurd (none-some p r);
     }
 
 -- ---- the bits of a frame's samples
@@ -93,8 +93,8 @@ unfolding sample_bits
 bits_small steps = go (class_of steps) refl
   where
     go : (o : Option QuantClass) → class_of steps ≡ o → frame_bits o ≤ 576
-    go none e = lit≤ tt
-    go (some q) e = (class_rule steps q e).1.frame
+    go None e = lit≤ tt
+    go (Some q) e = (class_rule steps q e).1.frame
 
 pub bits_are : (steps r : ℕ) → r ≡ sample_bits steps → SampleBitsAre steps r
 bits_are steps r e = record { whole = e; small = rw e (bits_small steps) }
@@ -148,8 +148,8 @@ not_grouped steps h = go (class_of steps) refl
     never q true g e t = absurd (subst T (ap (one_of (3 ∷ 5 ∷ 9 ∷ [])) e ∙ h) t)
 
     go : (o : Option QuantClass) → class_of steps ≡ o → false ≡ grouping_in o
-    go none e = refl
-    go (some q) e =
+    go None e = refl
+    go (Some q) e =
         let g = find_passes (λ q. eqb q.nb_steps steps) grouped_among classes q groups e in
         never q q.grouping refl (eqb-true _ _ g.0) g.1
 
@@ -171,7 +171,3 @@ bits_counted steps h =
     let l : size n ≤ 32 = size-le n 32 (omega arith) in
     let e : 32 - size n ≡ count_leading_zeros 32 n = leading_unique 32 n (32 - size n) (size n) (omega arith) (size-lt n) (half_reached n) in
     record { whole = omega arith; most = omega arith }
-
-pub no_steps : (steps : ℕ) → steps ≡ 0 → BitsPerSampleAre steps 0
-unfolding bits_per_sample
-no_steps steps e = record { whole = rw e refl; most = lit≤ tt }

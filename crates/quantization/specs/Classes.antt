@@ -1,12 +1,9 @@
 -- The classes of quantization: Table 3-B.4 of ISO/IEC 11172-3.
-use Rattle.std.specs.Prelude.{ℕ, ◌+◌, ◌-◌, ◌*◌, ◌/◌, ◌^◌, ◌≤◌, ◌≡◌, Bool, true, false, List, [], ◌∷◌, eqb}
-use Rattle.std.proofs.Math.Option.{Option, none, some}
+use Rattle.std.specs.Prelude.{ℕ, ◌+◌, ◌-◌, ◌*◌, ◌/◌, ◌^◌, ◌≤◌, ◌≡◌, Bool, true, false, List, [], ◌∷◌, eqb, Option, None, Some}
 use Rattle.std.specs.Float.Ieee.{size}
 use Rattle.tables.specs.Decimal.{decimal}
 use Rattle.tables.specs.Search.{find}
 use Rattle.quantization.specs.declared.QuantClass.{QuantClass}
-use Rattle.quantization.specs.declared.OptionClass.{OptionClass}
-use Rattle.quantization.specs.declared.OptionClass.TheVariants.{Some, None}
 
 -- a row of the table: number of steps, C, D, grouping, samples per codeword, bits per codeword; C and D have eleven decimal places
 unfoldable pub class : ℕ → ℕ → ℕ → Bool → ℕ → ℕ → QuantClass
@@ -42,11 +39,6 @@ classes =
     ∷ class 65535 1_00001525902 0_00003051758 false 1 16
     ∷ []
 
--- what the code's enum of a class or nothing stands for
-abbrev pub class_in : OptionClass → Option QuantClass
-class_in (Some q) = some q
-class_in None = none
-
 -- the class of a number of steps
 unfoldable pub class_of : ℕ → Option QuantClass
 unfolding classes
@@ -54,8 +46,8 @@ class_of steps = find (λ q. eqb q.nb_steps steps) classes
 
 -- the table's column 'grouping'
 abbrev pub grouping_in : Option QuantClass → Bool
-grouping_in none = false
-grouping_in (some q) = q.grouping
+grouping_in None = false
+grouping_in (Some q) = q.grouping
 
 unfoldable pub grouped : ℕ → Bool
 unfolding class_of
@@ -68,8 +60,8 @@ bits_per_sample steps = size (steps - 1)
 
 -- The bits of a subband's 36 samples in a frame: 36 / samples per codeword codewords. No bits where there is no such class
 abbrev pub frame_bits : Option QuantClass → ℕ
-frame_bits none = 0
-frame_bits (some q) = 36 / q.samples_per_codeword * q.bits_per_codeword
+frame_bits None = 0
+frame_bits (Some q) = 36 / q.samples_per_codeword * q.bits_per_codeword
 
 unfoldable pub sample_bits : ℕ → ℕ
 unfolding class_of
@@ -87,8 +79,8 @@ pub record ClassRule (q : QuantClass) : Type 0 where
 
 -- ---- what the functions promise
 
-pub record ClassIs (steps : ℕ) (r : OptionClass) : Type 0 where
-  pub whole : class_in r ≡ class_of steps
+pub record ClassIs (steps : ℕ) (r : Option QuantClass) : Type 0 where
+  pub whole : r ≡ class_of steps
   pub ruled : (q : QuantClass) → r ≡ Some q → (q.nb_steps ≡ steps) × ClassRule q
 
 pub record BitsPerSampleAre (steps r : ℕ) : Type 0 where

@@ -20,15 +20,12 @@ impl QuantClass {
     pub fn bits_per_sample(self) -> u32
         ensures { BitsPerSampleAre self.nb_steps result }
     {
-        let steps = self.nb_steps;
-        if steps == 0 {
-            return 0;
-        }
-        32 - u32::leading_zeros(steps - 1)
+        let last = self.nb_steps.saturating_sub(1);
+        32 - last.leading_zeros()
     }
 }
 
-const QUANT_CLASSES: [QuantClass; 17] = [
+static QUANT_CLASSES: [QuantClass; 17] = [
     QuantClass {
         nb_steps: 3,
         c: 1.33333333333,
@@ -167,43 +164,29 @@ const QUANT_CLASSES: [QuantClass; 17] = [
     },
 ];
 
-fn quant_classes() -> [QuantClass; 17]
-    ensures { result ≡ classes }
+fn quant_classes() -> &'static [QuantClass; 17]
+    ensures { result.now ≡ classes }
 {
-    QUANT_CLASSES
-}
-
-// A class, or nothing.
-#[derive(Clone, Copy)]
-pub enum OptionClass {
-    Some(QuantClass),
-    None,
+    &QUANT_CLASSES
 }
 
 // The class of a step count.
-pub fn class_of_quantization(nb_steps: u32) -> OptionClass
+pub fn class_of_quantization(nb_steps: u32) -> Option<QuantClass>
     ensures { ClassIs nb_steps result }
 {
-    let classes = quant_classes();
-    let mut i: usize = 0;
-    while i < 17 {
-        let class = classes[i];
+    for class in quant_classes() {
         if class.nb_steps == nb_steps {
-            return OptionClass::Some(class);
+            return Some(*class);
         }
-        i = i + 1;
     }
-    OptionClass::None
+    None
 }
 
 // Whether three samples share a codeword (2.4.2.3).
 pub fn is_grouped(nb_steps: u32) -> bool
     ensures { result ≡ grouped nb_steps }
 {
-    match nb_steps {
-        3 | 5 | 9 => true,
-        _ => false,
-    }
+    matches!(nb_steps, 3 | 5 | 9)
 }
 
 // The bits of a subband's 36 samples in a frame: twelve codewords of three samples, or 36 of as many bits as the steps have.
@@ -215,7 +198,7 @@ pub fn sample_bits_for(nb_steps: u32) -> u32
         5 => 84,
         9 => 120,
         7 | 15 | 31 | 63 | 127 | 255 | 511 | 1023 | 2047 | 4095 | 8191 | 16383 | 32767 | 65535 => {
-            36 * (32 - u32::leading_zeros(nb_steps))
+            36 * (32 - nb_steps.leading_zeros())
         }
         _ => 0,
     }

@@ -1,8 +1,9 @@
 -- What a slot's questions come to: all are answered yes where the three conditions hold, and otherwise the first that fails has its number.
+use Rattle.std.proofs.lemmas.Option.{none-some, same_Some}
+use Rattle.std.specs.Prelude.{Option, None, Some, is_some}
 use mathlib.Core.Path.{◌≡◌, refl, sym, ap, ap₂, ◌∙◌, subst}
 use mathlib.Core.Bool.{Bool, true, false, not, ◌&&◌, ◌||◌, true≢false}
 use mathlib.Core.Logic.{◌⊎◌, inl, inr}
-use mathlib.Core.Option.{Option, none, some, none-ne-some, some-injective}
 use Prim.Native.Nat.{ℕ, ◌<◌}
 use native.Mathlib.Decide.{dec_lt}
 use native.Mathlib.Omega.{arith}
@@ -15,7 +16,6 @@ use Rattle.tables.proofs.Rule.{both_true}
 use Rattle.tables.proofs.Search.{at_place, there_only}
 use Rattle.header.specs.Questions.{number}
 use Rattle.header.proofs.QuestionLaws.{refusing}
-use Rattle.bitalloc.specs.Options.{is_some}
 use Rattle.bitalloc.proofs.RowLaws.{sblimit_small}
 use Rattle.layout.specs.declared.Layout.{Layout}
 use Rattle.layout.specs.declared.AllocationField.{AllocationField}
@@ -40,7 +40,7 @@ module _ (l : Layout) where
     pub subband : (field_in (fields_of l) f).subband ≡ subband_in slot
     pub channel : one_of (served (field_in (fields_of l) f)) (channel_in slot) ≡ true
 
-  pub serving : (f slot : ℕ) → field_serving l slot ≡ some f → Serves f slot
+  pub serving : (f slot : ℕ) → field_serving l slot ≡ Some f → Serves f slot
   serving f slot e =
       let test = serves (channel_in slot) (subband_in slot) in
       let p = at_place test (fields_of l) f e in
@@ -50,10 +50,10 @@ module _ (l : Layout) where
       record { here = q.0; subband = eqb-true x.subband (subband_in slot) b.0; channel = b.1 }
 
   -- it is the entry of its number
-  pub found : (f slot : ℕ) → field_serving l slot ≡ some f → entry_at (fields_of l) (some f) ≡ some (field_in (fields_of l) f)
+  pub found : (f slot : ℕ) → field_serving l slot ≡ Some f → entry_at (fields_of l) (Some f) ≡ Some (field_in (fields_of l) f)
   found f slot e =
       let p = at_place (serves (channel_in slot) (subband_in slot)) (fields_of l) f e in
-      p.1 ∙ ap some (sym (there_only (fields_of l) f p.0 (own 0 0) p.1).1)
+      p.1 ∙ ap Some (sym (there_only (fields_of l) f p.0 (own 0 0) p.1).1)
 
   -- its first channel is one that it serves
   own_channel : (f : ℕ) → f < length (fields_of l) → one_of (served (field_in (fields_of l) f)) (field_in (fields_of l) f).channel ≡ true
@@ -61,7 +61,7 @@ module _ (l : Layout) where
 
   -- every slot that it serves has it, the first among them
   serves_slot : (f : ℕ) → f < length (fields_of l) → (ch : ℕ) → one_of (served (field_in (fields_of l) f)) ch ≡ true
-      → field_serving l (slot_of ch (field_in (fields_of l) f).subband) ≡ some f
+      → field_serving l (slot_of ch (field_in (fields_of l) f).subband) ≡ Some f
   serves_slot f h ch t =
       let sb = (field_in (fields_of l) f).subband in
       let small : sb < 32 = omega (arith, carried l f h, sblimit_small l.table) in
@@ -69,16 +69,16 @@ module _ (l : Layout) where
       let b : subband_in (slot_of ch sb) ≡ sb = omega arith in
       ap₂ (served_by l) c b ∙ served_once l f h ch (subst T (sym t) tt)
 
-  pub first_slot : (f : ℕ) → f < length (fields_of l) → field_serving l (slot_of (field_in (fields_of l) f).channel (field_in (fields_of l) f).subband) ≡ some f
+  pub first_slot : (f : ℕ) → f < length (fields_of l) → field_serving l (slot_of (field_in (fields_of l) f).channel (field_in (fields_of l) f).subband) ≡ Some f
   first_slot f h = serves_slot f h (field_in (fields_of l) f).channel (own_channel f h)
 
 -- ---- question 6
 
-module _ (l : Layout) (s : SideInfo) (f slot : ℕ) (e : field_serving l slot ≡ some f) where
+module _ (l : Layout) (s : SideInfo) (f slot : ℕ) (e : field_serving l slot ≡ Some f) where
   abbrev x : AllocationField
   x = field_in (fields_of l) f
 
-  steps_of : (shared_asked s x).yes ≡ true → (k : ℕ) → field_serving l k ≡ some f → get_or s.steps k 0 ≡ field_steps s.steps x
+  steps_of : (shared_asked s x).yes ≡ true → (k : ℕ) → field_serving l k ≡ Some f → get_or s.steps k 0 ≡ field_steps s.steps x
   steps_of y k p =
       let v = serving l f k p in
       let whole : k ≡ slot_of (channel_in k) x.subband = let q = v.subband in omega arith in
@@ -86,8 +86,8 @@ module _ (l : Layout) (s : SideInfo) (f slot : ℕ) (e : field_serving l slot �
 
   pub shared_holds : (shared_asked s x).yes ≡ true → StepsShared l s slot
   shared_holds y g other p q =
-      let same : g ≡ f = some-injective g f (sym p ∙ e) in
-      steps_of y other (q ∙ ap some same) ∙ sym (steps_of y slot e)
+      let same : g ≡ f = same_Some g f (sym p ∙ e) in
+      steps_of y other (q ∙ ap Some same) ∙ sym (steps_of y slot e)
 
   pub holds_shared : StepsShared l s slot → (shared_asked s x).yes ≡ true
   holds_shared h =
@@ -128,7 +128,7 @@ module _ (l : Layout) (s : SideInfo) (slot : ℕ) where
   abbrev Comes : ℕ → Type 0
   Comes n = ((n ≡ 0) × SlotHolds l s slot) ⊎ FailsBy l s slot n
 
-  outside : field_serving l slot ≡ none → Comes (number (asked_by s slot none))
+  outside : field_serving l slot ≡ None → Comes (number (asked_by s slot None))
   outside e = go (eqb steps 0) refl
     where
       uncarried : one_of (slots_of l) slot ≡ false
@@ -139,13 +139,13 @@ module _ (l : Layout) (s : SideInfo) (slot : ℕ) where
         refl,
         record {
           carried = λ c. eqb-true steps 0 z;
-          shared = λ f other p q. absurd (none-ne-some f (sym e ∙ p));
+          shared = λ f other p q. absurd (none-some f (sym e ∙ p));
           agrees = λ active. absurd (true≢false (sym active ∙ active_by false (ap is_some e)));
         },
       )
       go false z = inr (inl (refl, λ c. eqb-false steps 0 z (c uncarried)))
 
-  within : (f : ℕ) → field_serving l slot ≡ some f → Comes (number (asked_by s slot (some (field_in (fields_of l) f))))
+  within : (f : ℕ) → field_serving l slot ≡ Some f → Comes (number (asked_by s slot (Some (field_in (fields_of l) f))))
   within f e = go (shared_asked s x).yes refl (sharing_asked s slot).yes refl
     where
       x : AllocationField
@@ -168,8 +168,8 @@ module _ (l : Layout) (s : SideInfo) (slot : ℕ) where
   slot_comes = go (field_serving l slot) refl
     where
       go : (o : Option ℕ) → field_serving l slot ≡ o → Comes (number (asked_by s slot (entry_at (fields_of l) o)))
-      go none e = outside e
-      go (some f) e = subst (λ (y : Option AllocationField). Comes (number (asked_by s slot y))) (sym (found l f slot e)) (within f e)
+      go None e = outside e
+      go (Some f) e = subst (λ (y : Option AllocationField). Comes (number (asked_by s slot y))) (sym (found l f slot e)) (within f e)
 
   -- where the three hold, all are answered yes
   pub holds_passes : SlotHolds l s slot → number (slot_asked l s slot) ≡ 0
@@ -187,8 +187,8 @@ module _ (l : Layout) (s : SideInfo) (slot : ℕ) where
   slot_refusing = go (entry_at (fields_of l) (field_serving l slot))
     where
       go : (o : Option AllocationField) → T (refusing (asked_by s slot o))
-      go none = tt
-      go (some y) = tt
+      go None = tt
+      go (Some y) = tt
 
   -- and where all are, the three hold
   pub passes_holds : number (slot_asked l s slot) ≡ 0 → SlotHolds l s slot

@@ -1,7 +1,6 @@
 -- The check of a record of side information: its questions in their order, and what `check_record` promises.
-use Rattle.std.specs.Prelude.{ℕ, ◌+◌, ◌*◌, ◌/◌, ◌%◌, ◌<◌, ◌≡◌, ◌||◌, ◌⊎◌, eqb, get_or}
+use Rattle.std.specs.Prelude.{ℕ, ◌+◌, ◌*◌, ◌/◌, ◌%◌, ◌<◌, ◌≡◌, ◌||◌, ◌⊎◌, eqb, get_or, Option, None, Some}
 use mathlib.Core.List.{List, [], ◌∷◌, ◌++◌, flat_map}
-use Rattle.std.proofs.Math.Option.{Option, none, some}
 use Rattle.tables.specs.Search.{find}
 use Rattle.tables.specs.Listed.{tabulate}
 use Rattle.header.specs.declared.FrameHeader.{FrameHeader}
@@ -30,8 +29,8 @@ sharing_asked s slot = record { yes = eqb (get_or s.steps slot 0) 0 || agreeing 
 -- A slot that no field serves is asked 17, so that 17 never meets the other two at one slot. Where a field serves the slot, 6 is asked of the field, as the
 -- writer asks it, and then 18 of the slot. A shared field is asked at both of its slots, and its answers are the same: a 6 is always given at channel 0.
 abbrev pub asked_by : SideInfo → ℕ → Option AllocationField → List (Question ℕ)
-asked_by s slot none = outside_asked s slot ∷ []
-asked_by s slot (some x) = shared_asked s x ∷ sharing_asked s slot ∷ []
+asked_by s slot None = outside_asked s slot ∷ []
+asked_by s slot (Some x) = shared_asked s x ∷ sharing_asked s slot ∷ []
 
 -- what a slot is asked in a layout
 unfoldable pub slot_asked : Layout → SideInfo → ℕ → List (Question ℕ)

@@ -1,7 +1,6 @@
 -- When a record of side information hangs together: three conditions on each of its 64 slots, in no order. Fields, and the slots that they serve, are
 -- those of the layout (layout/specs/Layout.antt); which slots are active and which idle, side_info/specs/SideInfo.antt says.
-use Rattle.std.specs.Prelude.{ℕ, ◌<◌, ◌≡◌, true, false, get_or}
-use Rattle.std.proofs.Math.Option.{Option, some}
+use Rattle.std.specs.Prelude.{ℕ, ◌<◌, ◌≡◌, true, false, get_or, Option, Some}
 use Rattle.tables.specs.Search.{one_of}
 use Rattle.layout.specs.declared.Layout.{Layout}
 use Rattle.layout.specs.Slots.{channel_in, subband_in}
@@ -21,7 +20,7 @@ module _ (l : Layout) (s : SideInfo) (slot : ℕ) where
   -- one step count in a shared field, since 2.4.1.6 sends one allocation for both channels from the bound up: any other slot that the slot's field serves
   -- has the same steps. It fails at both slots of a shared field or at none.
   abbrev pub StepsShared : Type 0
-  StepsShared = (f other : ℕ) → field_serving l slot ≡ some f → field_serving l other ≡ some f → get_or s.steps other 0 ≡ get_or s.steps slot 0
+  StepsShared = (f other : ℕ) → field_serving l slot ≡ Some f → field_serving l other ≡ Some f → get_or s.steps other 0 ≡ get_or s.steps slot 0
 
   -- indices equal wherever the scfsi of an active slot says that they are shared (2.4.2.6); of an idle slot nothing is asked
   abbrev pub IndicesShared : Type 0

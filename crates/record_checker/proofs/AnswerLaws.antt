@@ -1,4 +1,5 @@
 -- The answer under a header: by its number where it is refused, by the slots where it is accepted.
+use Rattle.std.specs.Prelude.{Ok, Err}
 use mathlib.Core.Path.{◌≡◌, sym, ap, ◌∙◌}
 use Prim.Native.Nat.{ℕ}
 use lib.Dec.{eqb}
@@ -8,7 +9,6 @@ use Rattle.header.specs.Questions.{number}
 use Rattle.layout.specs.declared.Layout.{Layout}
 use Rattle.encoder_bit_budget.specs.declared.FixedBitBudget.{FixedBitBudget}
 use Rattle.encoder_bit_budget.specs.declared.BitAllocError.{BitAllocError}
-use Rattle.encoder_bit_budget.specs.declared.Budget.TheVariants.{Ok, Refused}
 use Rattle.encoder_bit_budget.specs.Budget.{plain, header_asked, error_number, budget_in, budget_of, layout_in}
 use Rattle.encoder_bit_budget.proofs.BudgetLaws.{apart, answer_is}
 use Rattle.side_info.specs.SideInfo.{SideInfo, header_layout}
@@ -19,7 +19,7 @@ use Rattle.record_check.proofs.PromiseLaws.{slots_answer, header_refused, header
 use Rattle.record_checker.specs.OnTheWay.{check_under}
 
 module _ (h : FrameHeader) (s : SideInfo) where
-  pub from_refused : (e : BitAllocError) (n : ℕ) → budget_in (Refused e) ≡ budget_of (plain h 0) → n ≡ error_number e → about_none n ≡ check_of h s
+  pub from_refused : (e : BitAllocError) (n : ℕ) → budget_in (Err e) ≡ budget_of (plain h 0) → n ≡ error_number e → about_none n ≡ check_of h s
   from_refused e n p is =
       let z : number (header_asked h) ≡ error_number e = sym (answer_is (plain h 0)) ∙ sym (ap (λ a. a.answer) p) in
       ap about_none (is ∙ sym z) ∙ sym (header_refused h s (ap (λ (m : ℕ). eqb m 0) z ∙ apart e))

@@ -1,7 +1,7 @@
 -- The number that a slot is refused by, as the code finds it, is that of its questions.
+use Rattle.std.specs.Prelude.{Option, None, Some}
 use mathlib.Core.Path.{◌≡◌, refl, sym, ap, ap₂, ◌∙◌}
 use mathlib.Core.Bool.{Bool, true, false, not, cond, ◌&&◌, ◌||◌}
-use mathlib.Core.Option.{Option, none, some}
 use Prim.Native.Nat.{ℕ, ◌+◌, ◌<◌}
 use native.Mathlib.Omega.{arith}
 use lib.Dec.{eqb}
@@ -24,11 +24,11 @@ use Rattle.record_checker.specs.OnTheWay.{served_refusal, refusal_by, slot_refus
 -- ---- as the code finds it
 
 module _ (l : Layout) (ch sb : ℕ) (empty equal agreed : Bool) (n : ℕ) where
-  pub by_none : none ≡ served_by l ch sb → n ≡ cond empty 0 17 → n ≡ slot_refusal l ch sb empty equal agreed
+  pub by_none : None ≡ served_by l ch sb → n ≡ cond empty 0 17 → n ≡ slot_refusal l ch sb empty equal agreed
   unfolding slot_refusal
   by_none e p = p ∙ ap (refusal_by l empty equal agreed) e
 
-  pub by_field : (f : ℕ) (x : AllocationField) → some f ≡ served_by l ch sb → x ≡ field_in (fields_of l) f → n ≡ served_refusal x.both equal (empty || agreed)
+  pub by_field : (f : ℕ) (x : AllocationField) → Some f ≡ served_by l ch sb → x ≡ field_in (fields_of l) f → n ≡ served_refusal x.both equal (empty || agreed)
       → n ≡ slot_refusal l ch sb empty equal agreed
   unfolding slot_refusal
   by_field f x e is p = p ∙ ap (λ (y : AllocationField). served_refusal y.both equal (empty || agreed)) is ∙ ap (refusal_by l empty equal agreed) e
@@ -56,14 +56,14 @@ module _ (l : Layout) (s : SideInfo) (ch sb : ℕ) (two : ch < 2) (small : sb < 
   abbrev agreed : Bool
   agreed = agreeing (scfsi_in s slot) (scalefactors_in s slot)
 
-  outside : refusal_by l empty equal agreed none ≡ number (asked_by s slot none)
+  outside : refusal_by l empty equal agreed None ≡ number (asked_by s slot None)
   outside = go empty
     where
       go : (b : Bool) → ◌≡◌ {A = ℕ} (cond b 0 17) (elim b [ true ↦ 0 | false ↦ 17 ])
       go true = refl
       go false = refl
 
-  within : (f : ℕ) → field_serving l slot ≡ some f → refusal_by l empty equal agreed (some f) ≡ number (asked_by s slot (some (field_in (fields_of l) f)))
+  within : (f : ℕ) → field_serving l slot ≡ Some f → refusal_by l empty equal agreed (Some f) ≡ number (asked_by s slot (Some (field_in (fields_of l) f)))
   within f e =
       let x = field_in (fields_of l) f in
       let v = serving l f slot e in
@@ -84,8 +84,8 @@ module _ (l : Layout) (s : SideInfo) (ch sb : ℕ) (two : ch < 2) (small : sb < 
           sym (ap₂ (served_by l) c b)
 
       go : (o : Option ℕ) → field_serving l slot ≡ o → refusal_by l empty equal agreed o ≡ number (asked_by s slot (entry_at (fields_of l) o))
-      go none e = outside
-      go (some f) e = within f e ∙ ap (λ (y : Option AllocationField). number (asked_by s slot y)) (sym (found l f slot e))
+      go None e = outside
+      go (Some f) e = within f e ∙ ap (λ (y : Option AllocationField). number (asked_by s slot y)) (sym (found l f slot e))
 
   -- from the code's own test of the indices
   pub refusal_found : (n : ℕ) (v : Bool) → n ≡ slot_refusal l ch sb empty equal v → v ≡ agreed → n ≡ number (slot_asked l s slot)

@@ -16,7 +16,9 @@ use Rattle.record_check.specs.Check.{slot_asked, in_order, checked, about_slot, 
 use Rattle.record_check.proofs.SlotLaws.{slot_refusing}
 use Rattle.record_check.proofs.TurnLaws.{next_passes, next_refuses, all_turns, at_turn}
 use Rattle.record_check.proofs.PromiseLaws.{slots_answer}
-use Rattle.record_checker.specs.OnTheWay.{check_under}
+use Rattle.record_checker.specs.declared.SlotError.{SlotError}
+use Rattle.record_checker.specs.declared.SlotError.TheVariants.{NotCarried, StepsDiffer, IndicesDiffer}
+use Rattle.record_checker.specs.OnTheWay.{error_number, check_under}
 
 module _ (l : Layout) (s : SideInfo) where
   pub record AskedTo (k : ℕ) : Type 0 where
@@ -40,12 +42,19 @@ module _ (l : Layout) (s : SideInfo) where
       decides = next ∙ next_passes (slot_asked l s) (slot_refusing l s) about_slot (about_none 0) slot (drop (k + 1) in_order) (ap (λ (m : ℕ). eqb m 0) (sym is) ∙ z);
     }
 
-    pub one_refused : eqb n 0 ≡ false → checked n (k / 2) (k % 2) ≡ check_under l s
-    one_refused z =
+    refused : eqb n 0 ≡ false → checked n (k / 2) (k % 2) ≡ check_under l s
+    refused z =
         let b : k / 2 ≡ subband_in slot = omega arith in
         let c : k % 2 ≡ channel_in slot = omega arith in
         (λ i. checked (is i) (b i) (c i))
         ∙ sym (next ∙ next_refuses (slot_asked l s) (slot_refusing l s) about_slot (about_none 0) slot (drop (k + 1) in_order) (ap (λ (m : ℕ). eqb m 0) (sym is) ∙ z))
+
+  -- by the number of an error
+  pub one_refused : (k n : ℕ) (here : k < 64) (so_far : AskedTo k) (is : n ≡ number (slot_asked l s (slot_of (k % 2) (k / 2)))) (e : SlotError) → n ≡ error_number e
+      → checked n (k / 2) (k % 2) ≡ check_under l s
+  one_refused k n here so_far is NotCarried z = refused k n here so_far is (ap (λ (m : ℕ). eqb m 0) z)
+  one_refused k n here so_far is StepsDiffer z = refused k n here so_far is (ap (λ (m : ℕ). eqb m 0) z)
+  one_refused k n here so_far is IndicesDiffer z = refused k n here so_far is (ap (λ (m : ℕ). eqb m 0) z)
 
   pub all_asked : (k : ℕ) → 64 ≤ k → AskedTo k → about_none 0 ≡ check_under l s
   unfolding flat_map

@@ -1,14 +1,12 @@
 // The library's answers as the numbers of a line.
 
-// A double's bit pattern; one and the same for each NaN.
-pub fn bits_of(x: f64) -> u64 {
-    if x == x {
-        f64::to_bits(x)
-    } else {
-        0x7ff8_0000_0000_0000
+// Bytes packed eight to a number, the first in the lowest bits; places behind the last byte are 0.
+pub fn packed<const N: usize>(bytes: &[u8]) -> [u64; N] {
+    let mut numbers = [0; N];
+    for (number, chunk) in numbers.iter_mut().zip(bytes.chunks(8)) {
+        for byte in chunk.iter().rev() {
+            *number = *number << 8 | u64::from(*byte);
+        }
     }
-}
-
-pub fn flag(set: bool) -> u64 {
-    if set { 1 } else { 0 }
+    numbers
 }

@@ -1,108 +1,107 @@
 // The arguments of a line: from its numbers to values of the library's types.
-use audio_data::Scfsi;
-use bitalloc::OptionU32;
-use header::{FrameHeader, Mode, ModeExtension, OptionExtension, OptionMode};
+use audio_data::{Scfsi, ScfsiSlot};
+use header::{FrameHeader, Mode, ModeExtension};
+use std::array;
+use std::num::f64_from_bits_with_nan;
 
-// The double of a bit pattern; NaN for each of NaN's patterns.
+// The double of a bit pattern; NaN for each of NaN's patterns. Std's own name, handed to `map`, is not proved.
 pub fn double(bits: u64) -> f64 {
-    let magnitude = bits % 0x8000_0000_0000_0000;
-    if magnitude > 0x7ff0_0000_0000_0000 {
-        0.0 / 0.0
-    } else {
-        f64::from_bits(bits)
-    }
+    f64_from_bits_with_nan(bits)
 }
 
-pub fn u32_of(n: u64) -> OptionU32 {
-    if n > 0xffff_ffff {
-        OptionU32::None
-    } else {
-        OptionU32::Some(n as u32)
+// Of 0 or 1.
+pub fn flag(n: u64) -> Option<bool> {
+    match n {
+        0 => Some(false),
+        1 => Some(true),
+        _ => None,
     }
-}
-
-// The number of which these 16 bits are the two's complement.
-pub fn i16_of(bits: u16) -> i16 {
-    if bits < 0x8000 {
-        bits as i16
-    } else {
-        !((0xffff - bits) as i16)
-    }
-}
-
-// The same of 64 bits.
-pub fn i64_of(bits: u64) -> i64 {
-    if bits < 0x8000_0000_0000_0000 {
-        bits as i64
-    } else {
-        !((u64::MAX - bits) as i64)
-    }
-}
-
-#[derive(Clone, Copy)]
-pub enum OptionScfsi {
-    Some(Scfsi),
-    None,
 }
 
 // The scfsi of a two-bit code.
-pub fn scfsi_of(n: u64) -> OptionScfsi {
-    match n {
-        0 => OptionScfsi::Some(Scfsi::ThreePerGranule),
-        1 => OptionScfsi::Some(Scfsi::Share01Then2),
-        2 => OptionScfsi::Some(Scfsi::ShareAll),
-        3 => OptionScfsi::Some(Scfsi::Share0Then12),
-        _ => OptionScfsi::None,
+pub fn scfsi_of(n: u64) -> Option<Scfsi> {
+    let code = u8::try_from(n).ok()?;
+    if code < 4 {
+        Some(Scfsi::of_code(code))
+    } else {
+        None
     }
 }
 
-#[derive(Clone, Copy)]
-pub enum OptionHeader {
-    Some(FrameHeader),
-    None,
-}
-
-// The header H, which a line has behind its kind: lsf bit_rate sample_rate padding protection_bit mode extension.
-pub fn header_of(numbers: &[u64; 256]) -> OptionHeader {
-    let lsf = numbers[1];
-    let padding = numbers[4];
-    let protection_bit = numbers[5];
-    if (lsf | padding | protection_bit) > 1 {
-        return OptionHeader::None;
-    }
-    let OptionU32::Some(bit_rate) = u32_of(numbers[2]) else {
-        return OptionHeader::None;
-    };
-    let OptionU32::Some(sample_rate) = u32_of(numbers[3]) else {
-        return OptionHeader::None;
-    };
-    let OptionMode::Some(mode) = Mode::of_code(numbers[6]) else {
-        return OptionHeader::None;
-    };
-    let OptionExtension::Some(mode_extension) = ModeExtension::of_code(numbers[7]) else {
-        return OptionHeader::None;
-    };
-    OptionHeader::Some(FrameHeader {
-        lsf: lsf == 1,
+// The header H, lsf bit_rate sample_rate padding protection_bit mode extension, and the numbers behind it.
+pub fn header_of(numbers: &[u64]) -> Option<(FrameHeader, &[u64])> {
+    let (head, rest) = numbers.split_first_chunk::<7>()?;
+    let [
+        lsf,
         bit_rate,
         sample_rate,
-        padding: padding == 1,
+        padding,
+        protection_bit,
+        mode,
+        extension,
+    ] = *head;
+    let mode = Mode::try_from(mode).ok()?;
+    let mode_extension = ModeExtension::try_from(extension).ok()?;
+    let header = FrameHeader {
+        lsf: flag(lsf)?,
+        bit_rate: u32::try_from(bit_rate).ok()?,
+        sample_rate: u32::try_from(sample_rate).ok()?,
+        padding: flag(padding)?,
         mode,
         mode_extension,
-        protection_bit: protection_bit == 1,
+        protection_bit: flag(protection_bit)?,
+    };
+    Some((header, rest))
+}
+
+// The signal-to-mask ratios of 64 slots, those of channel 0 first, and the numbers behind them.
+pub fn ratios_of(numbers: &[u64]) -> Option<([[f64; 32]; 2], &[u64])> {
+    let (first, rest) = numbers.split_first_chunk::<32>()?;
+    let (second, rest) = rest.split_first_chunk::<32>()?;
+    Some(([first.map(double), second.map(double)], rest))
+}
+
+// The side information of a frame, but for its header.
+#[derive(Clone, Copy)]
+pub struct Record {
+    pub steps: [u32; 64],
+    pub slots: [ScfsiSlot; 64],
+    pub indices: [u8; 192],
+}
+
+// A record, 64 numbers of steps, 2 numbers of 32 scfsi codes each and 24 numbers of 8 indices each, and the numbers behind it.
+// What is packed has its first in the lowest bits of a number.
+pub fn record_of(numbers: &[u64]) -> Option<(Record, &[u64])> {
+    let (steps, rest) = numbers.split_first_chunk::<64>()?;
+    let (codes, rest) = rest.split_first_chunk::<2>()?;
+    let (indices, rest) = rest.split_first_chunk::<24>()?;
+    let record = Record {
+        steps: steps_of(steps)?,
+        slots: slots_of(*codes),
+        indices: bytes_of(indices),
+    };
+    Some((record, rest))
+}
+
+fn steps_of(numbers: &[u64; 64]) -> Option<[u32; 64]> {
+    let mut steps = [0; 64];
+    for (step, n) in steps.iter_mut().zip(numbers) {
+        *step = u32::try_from(*n).ok()?;
+    }
+    Some(steps)
+}
+
+fn slots_of(codes: [u64; 2]) -> [ScfsiSlot; 64] {
+    array::from_fn(|slot| ScfsiSlot {
+        scfsi: Scfsi::of_code((codes[slot / 32] >> (2 * (slot % 32)) & 3) as u8),
     })
 }
 
-// Fills a slice with the doubles that a line has from `at` on.
-pub fn read_doubles(numbers: &[u64; 256], at: usize, doubles: &mut [f64]) {
-    let mut place = at;
-    let mut i: usize = 0;
-    while i < doubles.len() {
-        if place >= 256 {
-            return;
-        }
-        doubles[i] = double(numbers[place]);
-        place = place + 1;
-        i = i + 1;
+// The bytes that numbers hold, eight each; 0 where the numbers end.
+pub fn bytes_of<const N: usize>(numbers: &[u64]) -> [u8; N] {
+    let mut bytes = [0; N];
+    for (chunk, n) in bytes.chunks_exact_mut(8).zip(numbers) {
+        chunk.copy_from_slice(&n.to_le_bytes());
     }
+    bytes
 }

@@ -1,14 +1,17 @@
-// A reader of lines of numbers: it is fed a line's bytes one after the other, and puts the line's numbers into an array
-// of the caller's.
+// A reader of lines of numbers: it is fed a line's bytes one after the other, and keeps the line's numbers.
+ghost use Rattle.std.specs.Prelude.{◌≤◌};
+
+// No line has more numbers.
+const MOST: usize = 256;
 
 // What was read of a line last.
 #[derive(Clone, Copy)]
-pub enum Part {
+enum Part {
     // Nothing yet.
     Start,
     Comment,
-    // A digit of a number.
-    Digit,
+    // The number that the digits so far are.
+    Digits(u64),
     // The space behind a number.
     Space,
     // Something that no line of numbers has.
@@ -16,151 +19,86 @@ pub enum Part {
 }
 
 // A line of which the end has not been read.
-#[derive(Clone, Copy)]
+#[derive(Drop)]
 pub struct Line {
     // Counted from 1.
     pub number: u64,
+    numbers: [u64; MOST],
     // How many numbers are in the array.
-    pub count: usize,
-    // The number whose digits are being read; 0 before its first digit.
-    pub value: u64,
-    pub part: Part,
+    count: usize,
+    part: Part,
+    ghost inside: { count ≤ 256 },
 }
 
 // What a line turned out to be at its end.
 #[derive(Clone, Copy)]
-pub enum Ended {
+pub enum Ended<'a> {
     // An empty line or a comment.
     Skipped,
-    // So many numbers, which are in the array.
-    Numbers(usize),
+    Numbers(&'a [u64]),
     Malformed,
 }
 
 impl Line {
     pub fn first() -> Line {
-        Line::start(1)
-    }
-
-    // The line after this one.
-    pub fn next(self) -> Line {
-        Line::start(one_more(self.number))
-    }
-
-    fn start(number: u64) -> Line {
         Line {
-            number,
+            number: 1,
+            numbers: [0; MOST],
             count: 0,
-            value: 0,
             part: Part::Start,
         }
     }
 
-    pub fn malformed(self) -> Line {
-        Line {
-            number: self.number,
-            count: self.count,
-            value: 0,
-            part: Part::Malformed,
-        }
+    // Begins the line after this one.
+    pub fn begin_next(&mut self) {
+        self.number = self.number.saturating_add(1);
+        self.count = 0;
+        self.part = Part::Start;
     }
 
-    // The line with one byte more, which is no line end.
-    pub fn fed(self, byte: u8, numbers: &mut [u64; 256]) -> Line {
-        let part = self.part;
-        match part {
-            Part::Start => self.started(byte),
-            Part::Digit => self.after_digit(byte, numbers),
-            Part::Space => self.with_digit(byte),
-            Part::Comment => self,
-            Part::Malformed => self,
-        }
+    // What comes behind is no line of numbers.
+    pub fn spoil(&mut self) {
+        self.part = Part::Malformed;
     }
 
-    fn started(self, byte: u8) -> Line {
-        if byte == b'#' {
-            Line {
-                number: self.number,
-                count: 0,
-                value: 0,
-                part: Part::Comment,
-            }
-        } else {
-            self.with_digit(byte)
-        }
+    // Takes one byte more, which is no line end.
+    pub fn feed(&mut self, byte: u8) {
+        self.part = match (self.part, byte) {
+            (Part::Comment, _) => Part::Comment,
+            (Part::Start, b'#') => Part::Comment,
+            (Part::Start | Part::Space, b'0'..=b'9') => Part::Digits(u64::from(byte - b'0')),
+            (Part::Digits(value), b'0'..=b'9') => with_digit(value, byte - b'0').map_or(
+                Part::Malformed,
+                Part::Digits,
+            ),
+            (Part::Digits(value), b' ') => self
+                .keep(value)
+                .map_or(Part::Malformed, |()| Part::Space),
+            _ => Part::Malformed,
+        };
     }
 
-    fn after_digit(self, byte: u8, numbers: &mut [u64; 256]) -> Line {
-        if byte == b' ' {
-            self.with_number(numbers)
-        } else {
-            self.with_digit(byte)
-        }
-    }
-
-    // The line whose number got one digit more. A number above `u64::MAX` makes the line malformed.
-    fn with_digit(self, byte: u8) -> Line {
-        if byte < b'0' {
-            return self.malformed();
-        }
-        if byte > b'9' {
-            return self.malformed();
-        }
-        let digit = (byte - b'0') as u64;
-        let value = self.value;
-        if value > u64::MAX / 10 {
-            return self.malformed();
-        }
-        let tens = value * 10;
-        if tens > u64::MAX - digit {
-            return self.malformed();
-        }
-        Line {
-            number: self.number,
-            count: self.count,
-            value: tens + digit,
-            part: Part::Digit,
-        }
-    }
-
-    // The line whose number is whole, and is put into the array.
-    fn with_number(self, numbers: &mut [u64; 256]) -> Line {
-        let count = self.count;
-        if count >= 256 {
-            return self.malformed();
-        }
-        numbers[count] = self.value;
-        Line {
-            number: self.number,
-            count: count + 1,
-            value: 0,
-            part: Part::Space,
-        }
+    // Keeps a number that is whole; none where a line has no room for it.
+    fn keep(&mut self, value: u64) -> Option<()> {
+        *self.numbers.get_mut(self.count)? = value;
+        self.count += 1;
+        Some(())
     }
 
     // What the line is, now that its end was read.
-    pub fn ended(self, numbers: &mut [u64; 256]) -> Ended {
-        let part = self.part;
-        match part {
-            Part::Start => Ended::Skipped,
-            Part::Comment => Ended::Skipped,
-            Part::Digit => self.last_number(numbers),
-            Part::Space => Ended::Malformed,
-            Part::Malformed => Ended::Malformed,
+    pub fn end(&mut self) -> Ended<'_> {
+        match self.part {
+            Part::Start | Part::Comment => Ended::Skipped,
+            Part::Digits(value) => match self.keep(value) {
+                Some(()) => Ended::Numbers(&self.numbers[..self.count]),
+                None => Ended::Malformed,
+            },
+            Part::Space | Part::Malformed => Ended::Malformed,
         }
-    }
-
-    fn last_number(self, numbers: &mut [u64; 256]) -> Ended {
-        let count = self.count;
-        if count >= 256 {
-            return Ended::Malformed;
-        }
-        numbers[count] = self.value;
-        Ended::Numbers(count + 1)
     }
 }
 
-// The next number; the largest stays as it is.
-pub fn one_more(n: u64) -> u64 {
-    if n < u64::MAX { n + 1 } else { n }
+// A number with one digit more; none above `u64::MAX`.
+fn with_digit(value: u64, digit: u8) -> Option<u64> {
+    value.checked_mul(10)?.checked_add(u64::from(digit))
 }

@@ -1,44 +1,35 @@
 // Kinds of sample codes.
-use crate::arguments::{double, u32_of};
-use bitalloc::OptionU32;
-use encoder_samples::{SampleCode, TripletAnswer};
-use replay_answers::{Verdict, same_numbers, verdict_of};
+use crate::arguments::double;
+use encoder_samples::Triplet;
+use replay_answers::{Verdict, pair_verdict, verdict_on};
 
 // Steps sample -> number code: the number is 0, or 5 where no class has these steps.
-pub fn quantize_sample(count: usize, numbers: &[u64; 256]) -> Verdict {
-    let OptionU32::Some(steps) = u32_of(numbers[1]) else {
-        return Verdict::Unread;
+pub fn quantize_sample(numbers: &[u64]) -> Option<Verdict> {
+    let [steps, sample, expected @ ..] = numbers else {
+        return None;
     };
-    let answers = code_numbers(encoder_samples::quantize_sample_for(steps, double(numbers[2])));
-    verdict_of(count == 5, same_numbers(numbers, 3, &answers))
-}
-
-fn code_numbers(answer: SampleCode) -> [u64; 2] {
-    match answer {
-        SampleCode::Code(code) => [0, code as u64],
-        SampleCode::NoClass => [5, 0],
+    let steps = u32::try_from(*steps).ok()?;
+    match encoder_samples::quantize_sample_for(steps, double(*sample)) {
+        Some(code) => pair_verdict(expected, 0, u64::from(code)),
+        None => pair_verdict(expected, 5, 0),
     }
 }
 
 // Steps, three samples -> number count width, three codewords: the number is 0, or 5 where no class has these steps.
-pub fn write_triplet(count: usize, numbers: &[u64; 256]) -> Verdict {
-    let OptionU32::Some(steps) = u32_of(numbers[1]) else {
-        return Verdict::Unread;
+pub fn write_triplet(numbers: &[u64]) -> Option<Verdict> {
+    let [steps, a, b, c, expected @ ..] = numbers else {
+        return None;
     };
-    let samples = [double(numbers[2]), double(numbers[3]), double(numbers[4])];
+    let steps = u32::try_from(*steps).ok()?;
+    let samples = [double(*a), double(*b), double(*c)];
     let answers = triplet_numbers(encoder_samples::write_triplet_for(steps, samples));
-    verdict_of(count == 11, same_numbers(numbers, 5, &answers))
+    verdict_on(expected, &answers)
 }
 
-fn triplet_numbers(answer: TripletAnswer) -> [u64; 6] {
-    let triplet = answer.triplet;
-    let codewords = triplet.codewords;
-    [
-        answer.number as u64,
-        triplet.count as u64,
-        triplet.width as u64,
-        codewords[0] as u64,
-        codewords[1] as u64,
-        codewords[2] as u64,
-    ]
+fn triplet_numbers(written: Option<Triplet>) -> [u64; 6] {
+    let Some(triplet) = written else {
+        return [5, 0, 0, 0, 0, 0];
+    };
+    let [first, second, third] = triplet.codewords;
+    [0, triplet.count, triplet.width, first, second, third].map(u64::from)
 }

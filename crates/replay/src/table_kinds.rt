@@ -1,204 +1,169 @@
 // Kinds of headers, allocation tables, classes of quantization and multipliers.
-use crate::answers::{bits_of, flag};
-use crate::arguments::{OptionHeader, header_of, u32_of};
-use bitalloc::{BitAllocTable, OptionTable, OptionU32};
-use header::{FrameSize, Mode, ModeExtension, OptionExtension, OptionMode};
-use quantization::{OptionClass, QuantClass};
-use replay_answers::{Verdict, found_verdict, pair_verdict, same_numbers, verdict_of};
+use crate::arguments::header_of;
+use bitalloc::BitAllocTable;
+use header::{Mode, ModeExtension};
+use quantization::QuantClass;
+use replay_answers::{Verdict, found_verdict, pair_verdict, verdict_on};
+use std::num::f64_to_bits_with_nan;
 
 // Table -> sblimit.
-pub fn sblimit(count: usize, numbers: &[u64; 256]) -> Verdict {
-    let OptionTable::Some(table) = BitAllocTable::numbered(numbers[1]) else {
-        return Verdict::Unread;
+pub fn sblimit(numbers: &[u64]) -> Option<Verdict> {
+    let [table, expected @ ..] = numbers else {
+        return None;
     };
-    verdict_of(count == 3, table.sblimit() as u64 == numbers[2])
+    let table = BitAllocTable::try_from(*table).ok()?;
+    verdict_on(expected, &[table.sblimit() as u64])
 }
 
 // Table sb -> nbal.
-pub fn nbal(count: usize, numbers: &[u64; 256]) -> Verdict {
-    let OptionTable::Some(table) = BitAllocTable::numbered(numbers[1]) else {
-        return Verdict::Unread;
+pub fn nbal(numbers: &[u64]) -> Option<Verdict> {
+    let [table, sb, expected @ ..] = numbers else {
+        return None;
     };
-    let sb = numbers[2] as usize;
-    verdict_of(count == 4, table.nbal(sb) as u64 == numbers[3])
+    let table = BitAllocTable::try_from(*table).ok()?;
+    verdict_on(expected, &[u64::from(table.nbal(*sb as usize))])
 }
 
 // Table sb index -> found steps.
-pub fn nb_steps(count: usize, numbers: &[u64; 256]) -> Verdict {
-    let OptionTable::Some(table) = BitAllocTable::numbered(numbers[1]) else {
-        return Verdict::Unread;
+pub fn nb_steps(numbers: &[u64]) -> Option<Verdict> {
+    let [table, sb, index, expected @ ..] = numbers else {
+        return None;
     };
-    let OptionU32::Some(index) = u32_of(numbers[3]) else {
-        return Verdict::Unread;
-    };
-    let sb = numbers[2] as usize;
-    found_verdict(
-        count == 6,
-        table.nb_steps(sb, index),
-        numbers[4],
-        numbers[5],
-    )
+    let table = BitAllocTable::try_from(*table).ok()?;
+    let index = u32::try_from(*index).ok()?;
+    found_verdict(expected, table.nb_steps(*sb as usize, index))
 }
 
 // Table sb steps -> found index.
-pub fn allocation_index(count: usize, numbers: &[u64; 256]) -> Verdict {
-    let OptionTable::Some(table) = BitAllocTable::numbered(numbers[1]) else {
-        return Verdict::Unread;
+pub fn allocation_index(numbers: &[u64]) -> Option<Verdict> {
+    let [table, sb, steps, expected @ ..] = numbers else {
+        return None;
     };
-    let OptionU32::Some(steps) = u32_of(numbers[3]) else {
-        return Verdict::Unread;
-    };
-    let sb = numbers[2] as usize;
-    found_verdict(
-        count == 6,
-        table.allocation_index(sb, steps),
-        numbers[4],
-        numbers[5],
-    )
+    let table = BitAllocTable::try_from(*table).ok()?;
+    let steps = u32::try_from(*steps).ok()?;
+    found_verdict(expected, table.allocation_index(*sb as usize, steps))
 }
 
 // Mode -> channels.
-pub fn mode_channels(count: usize, numbers: &[u64; 256]) -> Verdict {
-    let OptionMode::Some(mode) = Mode::of_code(numbers[1]) else {
-        return Verdict::Unread;
+pub fn mode_channels(numbers: &[u64]) -> Option<Verdict> {
+    let [mode, expected @ ..] = numbers else {
+        return None;
     };
-    verdict_of(count == 3, mode.channels() as u64 == numbers[2])
+    let mode = Mode::try_from(*mode).ok()?;
+    verdict_on(expected, &[mode.channels() as u64])
 }
 
 // Extension -> bound.
-pub fn bound(count: usize, numbers: &[u64; 256]) -> Verdict {
-    let OptionExtension::Some(extension) = ModeExtension::of_code(numbers[1]) else {
-        return Verdict::Unread;
+pub fn bound(numbers: &[u64]) -> Option<Verdict> {
+    let [extension, expected @ ..] = numbers else {
+        return None;
     };
-    verdict_of(count == 3, extension.bound() as u64 == numbers[2])
+    let extension = ModeExtension::try_from(*extension).ok()?;
+    verdict_on(expected, &[extension.bound() as u64])
 }
 
 // H -> 0 or 1.
-pub fn is_free_format(count: usize, numbers: &[u64; 256]) -> Verdict {
-    let OptionHeader::Some(header) = header_of(numbers) else {
-        return Verdict::Unread;
-    };
-    verdict_of(count == 9, flag(header.is_free_format()) == numbers[8])
+pub fn is_free_format(numbers: &[u64]) -> Option<Verdict> {
+    let (header, expected) = header_of(numbers)?;
+    verdict_on(expected, &[u64::from(header.is_free_format())])
 }
 
 // H -> number bytes: the number is 0, or 2 where the sample rate is 0.
-pub fn frame_size_bytes(count: usize, numbers: &[u64; 256]) -> Verdict {
-    let OptionHeader::Some(header) = header_of(numbers) else {
-        return Verdict::Unread;
-    };
-    let size = header.frame_size_bytes();
-    match size {
-        FrameSize::Bytes(bytes) => pair_verdict(count == 10, 0, bytes, numbers[8], numbers[9]),
-        FrameSize::ZeroSampleRate => pair_verdict(count == 10, 2, 0, numbers[8], numbers[9]),
+pub fn frame_size_bytes(numbers: &[u64]) -> Option<Verdict> {
+    let (header, expected) = header_of(numbers)?;
+    match header.frame_size_bytes() {
+        Some(bytes) => pair_verdict(expected, 0, bytes),
+        None => pair_verdict(expected, 2, 0),
     }
 }
 
 // H -> found kbps.
-pub fn bitrate_per_channel_kbps(count: usize, numbers: &[u64; 256]) -> Verdict {
-    let OptionHeader::Some(header) = header_of(numbers) else {
-        return Verdict::Unread;
-    };
-    found_verdict(
-        count == 10,
-        table_selection::bitrate_per_channel_kbps(header),
-        numbers[8],
-        numbers[9],
-    )
+pub fn bitrate_per_channel_kbps(numbers: &[u64]) -> Option<Verdict> {
+    let (header, expected) = header_of(numbers)?;
+    found_verdict(expected, table_selection::bitrate_per_channel_kbps(header))
 }
 
 // H -> found table.
-pub fn select_table(count: usize, numbers: &[u64; 256]) -> Verdict {
-    let OptionHeader::Some(header) = header_of(numbers) else {
-        return Verdict::Unread;
-    };
-    let selected = table_selection::select_table(header);
-    match selected {
-        OptionTable::Some(table) => pair_verdict(
-            count == 10,
-            1,
-            table.number() as u64,
-            numbers[8],
-            numbers[9],
-        ),
-        OptionTable::None => pair_verdict(count == 10, 0, 0, numbers[8], numbers[9]),
+pub fn select_table(numbers: &[u64]) -> Option<Verdict> {
+    let (header, expected) = header_of(numbers)?;
+    match table_selection::select_table(header) {
+        Some(table) => pair_verdict(expected, 1, u64::from(table.number())),
+        None => pair_verdict(expected, 0, 0),
     }
 }
 
 // Steps -> found C D grouping samples_per_codeword bits_per_codeword.
-pub fn class_of_quantization(count: usize, numbers: &[u64; 256]) -> Verdict {
-    let OptionU32::Some(steps) = u32_of(numbers[1]) else {
-        return Verdict::Unread;
+pub fn class_of_quantization(numbers: &[u64]) -> Option<Verdict> {
+    let [steps, expected @ ..] = numbers else {
+        return None;
     };
-    let answers = class_numbers(quantization::class_of_quantization(steps));
-    verdict_of(count == 8, same_numbers(numbers, 2, &answers))
+    let steps = u32::try_from(*steps).ok()?;
+    verdict_on(
+        expected,
+        &class_numbers(quantization::class_of_quantization(steps)),
+    )
 }
 
-fn class_numbers(found: OptionClass) -> [u64; 6] {
+fn class_numbers(found: Option<QuantClass>) -> [u64; 6] {
     match found {
-        OptionClass::Some(class) => [
+        Some(class) => [
             1,
-            bits_of(class.c),
-            bits_of(class.d),
-            flag(class.grouping),
-            class.samples_per_codeword as u64,
-            class.bits_per_codeword as u64,
+            f64_to_bits_with_nan(class.c),
+            f64_to_bits_with_nan(class.d),
+            u64::from(class.grouping),
+            u64::from(class.samples_per_codeword),
+            u64::from(class.bits_per_codeword),
         ],
-        OptionClass::None => [0; 6],
+        None => [0; 6],
     }
 }
 
 // Steps -> 0 or 1.
-pub fn is_grouped(count: usize, numbers: &[u64; 256]) -> Verdict {
-    let OptionU32::Some(steps) = u32_of(numbers[1]) else {
-        return Verdict::Unread;
+pub fn is_grouped(numbers: &[u64]) -> Option<Verdict> {
+    let [steps, expected @ ..] = numbers else {
+        return None;
     };
-    verdict_of(
-        count == 3,
-        flag(quantization::is_grouped(steps)) == numbers[2],
-    )
+    let steps = u32::try_from(*steps).ok()?;
+    verdict_on(expected, &[u64::from(quantization::is_grouped(steps))])
 }
 
 // Steps -> bits, of a class with these steps; the other fields play no part.
-pub fn bits_per_sample(count: usize, numbers: &[u64; 256]) -> Verdict {
-    let OptionU32::Some(steps) = u32_of(numbers[1]) else {
-        return Verdict::Unread;
+pub fn bits_per_sample(numbers: &[u64]) -> Option<Verdict> {
+    let [steps, expected @ ..] = numbers else {
+        return None;
     };
     let class = QuantClass {
-        nb_steps: steps,
+        nb_steps: u32::try_from(*steps).ok()?,
         c: 0.0,
         d: 0.0,
         grouping: false,
         samples_per_codeword: 0,
         bits_per_codeword: 0,
     };
-    verdict_of(count == 3, class.bits_per_sample() as u64 == numbers[2])
+    verdict_on(expected, &[u64::from(class.bits_per_sample())])
 }
 
 // Steps -> bits.
-pub fn sample_bits_for(count: usize, numbers: &[u64; 256]) -> Verdict {
-    let OptionU32::Some(steps) = u32_of(numbers[1]) else {
-        return Verdict::Unread;
+pub fn sample_bits_for(numbers: &[u64]) -> Option<Verdict> {
+    let [steps, expected @ ..] = numbers else {
+        return None;
     };
-    verdict_of(
-        count == 3,
-        quantization::sample_bits_for(steps) as u64 == numbers[2],
-    )
+    let steps = u32::try_from(*steps).ok()?;
+    verdict_on(expected, &[u64::from(quantization::sample_bits_for(steps))])
 }
 
 // Index -> multiplier.
-pub fn scalefactors(count: usize, numbers: &[u64; 256]) -> Verdict {
-    let index = numbers[1] as usize;
-    if index >= 63 {
-        return Verdict::Unread;
-    }
+pub fn scalefactors(numbers: &[u64]) -> Option<Verdict> {
+    let [index, expected @ ..] = numbers else {
+        return None;
+    };
     let multipliers = tables::scalefactors();
-    verdict_of(count == 3, bits_of(multipliers[index]) == numbers[2])
+    let multiplier = multipliers.get(*index as usize)?;
+    verdict_on(expected, &[f64_to_bits_with_nan(*multiplier)])
 }
 
 // H -> channels.
-pub fn channels(count: usize, numbers: &[u64; 256]) -> Verdict {
-    let OptionHeader::Some(header) = header_of(numbers) else {
-        return Verdict::Unread;
-    };
-    verdict_of(count == 9, header.channels() as u64 == numbers[8])
+pub fn channels(numbers: &[u64]) -> Option<Verdict> {
+    let (header, expected) = header_of(numbers)?;
+    verdict_on(expected, &[header.channels() as u64])
 }

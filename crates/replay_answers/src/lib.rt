@@ -2,86 +2,61 @@
 #![tactic(auto)]
 
 ghost use Rattle.std.specs.Prelude.{◌≡◌};
-ghost use Rattle.replay_answers.specs.Verdicts.{verdict_of, pair_verdict, found_verdict, same_from};
+ghost use Rattle.replay_answers.specs.Verdicts.{verdict, both, verdict_on, pair_verdict, found_verdict};
 
-use bitalloc::OptionU32;
-
-#[derive(Clone, Copy)]
+// Whether the library answers what a line expects.
+#[derive(Clone, Copy, Debug, PartialEq, Eq)]
 pub enum Verdict {
     Agree,
     Differ,
-    // The kind is not known, the count of numbers is not the kind's, or the library's types cannot hold an argument.
-    Unread,
 }
 
-// The verdict on a line: whether it has its kind's count of numbers, with arguments that the library's types can hold, and
-// whether what the library answers is what it expects.
-pub fn verdict_of(read: bool, agrees: bool) -> Verdict
-    ensures { result ≡ verdict_of read agrees }
-{
-    if read {
+impl Verdict {
+    pub fn of(agrees: bool) -> Verdict
+        ensures { result ≡ verdict agrees }
+    {
         if agrees {
             Verdict::Agree
         } else {
             Verdict::Differ
         }
+    }
+
+    // The verdict on two parts of a line.
+    pub fn and(self, other: Verdict) -> Verdict
+        ensures { result ≡ both self other }
+    {
+        match self {
+            Verdict::Agree => other,
+            Verdict::Differ => Verdict::Differ,
+        }
+    }
+}
+
+// The verdict on the numbers that a line expects; none where it has another count of them than there are answers.
+pub fn verdict_on(expected: &[u64], answers: &[u64]) -> Option<Verdict>
+    ensures { result ≡ verdict_on expected.now answers.now }
+{
+    if expected.len() == answers.len() {
+        Some(Verdict::of(expected == answers))
     } else {
-        Verdict::Unread
+        None
     }
 }
 
 // The verdict where the answer is two numbers.
-pub fn pair_verdict(
-    counted: bool,
-    number: u64,
-    value: u64,
-    expected_number: u64,
-    expected_value: u64,
-) -> Verdict
-    ensures { result ≡ pair_verdict counted number value expected_number expected_value }
+pub fn pair_verdict(expected: &[u64], number: u64, value: u64) -> Option<Verdict>
+    ensures { result ≡ pair_verdict expected.now number value }
 {
-    verdict_of(
-        counted,
-        (number == expected_number) & (value == expected_value),
-    )
+    verdict_on(expected, &[number, value])
 }
 
 // The verdict where the answer is a number or nothing.
-pub fn found_verdict(
-    counted: bool,
-    answer: OptionU32,
-    expected_found: u64,
-    expected_value: u64,
-) -> Verdict
-    ensures { result ≡ found_verdict counted answer expected_found expected_value }
+pub fn found_verdict(expected: &[u64], answer: Option<u32>) -> Option<Verdict>
+    ensures { result ≡ found_verdict expected.now answer }
 {
     match answer {
-        OptionU32::Some(value) => pair_verdict(
-            counted,
-            1,
-            value as u64,
-            expected_found,
-            expected_value,
-        ),
-        OptionU32::None => pair_verdict(counted, 0, 0, expected_found, expected_value),
+        Some(value) => pair_verdict(expected, 1, u64::from(value)),
+        None => pair_verdict(expected, 0, 0),
     }
-}
-
-// Whether the numbers of a line from `at` on are these.
-pub fn same_numbers(numbers: &[u64; 256], at: usize, answers: &[u64]) -> bool
-    ensures { result ≡ same_from numbers.now at answers.now }
-{
-    let mut place = at;
-    let mut i: usize = 0;
-    while i < answers.len() {
-        if place >= 256 {
-            return false;
-        }
-        if numbers[place] != answers[i] {
-            return false;
-        }
-        place = place + 1;
-        i = i + 1;
-    }
-    true
 }

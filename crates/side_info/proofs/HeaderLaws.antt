@@ -1,9 +1,9 @@
 -- The layout of an accepted header.
+use Rattle.std.specs.Prelude.{Ok}
 use mathlib.Core.Path.{◌≡◌, sym, ap, ◌∙◌}
 use Rattle.header.specs.declared.FrameHeader.{FrameHeader}
 use Rattle.layout.specs.Layout.{layout_of}
 use Rattle.encoder_bit_budget.specs.declared.FixedBitBudget.{FixedBitBudget}
-use Rattle.encoder_bit_budget.specs.declared.Budget.TheVariants.{Ok}
 use Rattle.encoder_bit_budget.specs.Budget.{plain, budget_in, budget_of, layout_in}
 use Rattle.encoder_bit_budget.proofs.BudgetLaws.{table_is, layout_is}
 use Rattle.side_info.specs.SideInfo.{header_layout, or_b2a}

@@ -1,13 +1,12 @@
 -- The side information of a frame as a bit string: allocation, scfsi and scalefactors in the order of the syntax of ISO/IEC 11172-3 2.4.1.6, and
 -- the questions that a record of them is asked.
-use Rattle.std.specs.Prelude.{ℕ, ◌+◌, ◌*◌, Bool, true, cond, ◌&&◌, eqb, leb, get_or}
+use Rattle.std.specs.Prelude.{ℕ, ◌+◌, ◌*◌, Bool, true, cond, ◌&&◌, eqb, leb, get_or, Option, None, Some, is_some}
 use mathlib.Core.List.{List, [], ◌∷◌, ◌++◌, map, flat_map}
-use Rattle.std.proofs.Math.Option.{Option, none, some}
 use Rattle.header.specs.declared.FrameHeader.{FrameHeader}
 use Rattle.header.specs.Questions.{Question}
 use Rattle.bitalloc.specs.declared.BitAllocTable.{BitAllocTable}
 use Rattle.bitalloc.specs.declared.BitAllocTable.TheVariants.{B2a}
-use Rattle.bitalloc.specs.Options.{is_some, or_zero}
+use Rattle.bitalloc.specs.Options.{or_zero}
 use Rattle.bitalloc.specs.Tables.{nbal_of, index_of}
 use Rattle.table_selection.specs.Select.{table_of}
 use Rattle.layout.specs.declared.Layout.{Layout}
@@ -46,8 +45,8 @@ scalefactors_in r slot =
 
 -- the layout that a header selects; where it selects no table, which question 1 refuses, that of B2a
 abbrev pub or_b2a : Option BitAllocTable → BitAllocTable
-or_b2a none = B2a
-or_b2a (some t) = t
+or_b2a None = B2a
+or_b2a (Some t) = t
 
 abbrev pub header_layout : FrameHeader → Layout
 header_layout h = layout_of h (or_b2a (table_of h))

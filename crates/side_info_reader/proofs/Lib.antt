@@ -1,4 +1,4 @@
-pub mod CursorLaws
+pub mod ReaderLaws
 pub mod SectionLaws
 pub mod ThreeLaws
 pub mod AnswerLaws

@@ -14,7 +14,7 @@ use Rattle.side_info_reading.specs.Taken.{Taken, got, refused, and_then, number_
 use Rattle.audio_data.specs.declared.Scfsi.{Scfsi}
 use Rattle.audio_data.specs.declared.ScfsiSlot.{ScfsiSlot}
 use Rattle.audio_data.specs.Scfsi.{of_code}
-use Rattle.side_info_reading.specs.Reading.{field_taken, scfsi_taken, in_slots, nothing}
+use Rattle.side_info_reading.specs.Reading.{field_taken, scfsi_taken, in_slots}
 use Rattle.side_info_reading.proofs.TakenLaws.{then_got, then_refused, each_next, number_taken_lem}
 
 -- ---- the slots of a field
@@ -77,7 +77,3 @@ scfsi_refused slot bits n e = then_refused as_slot (number_taken 2 bits) n e
 -- two bits
 pub code_small : (code : ℕ) (bits rest : List Bool) → number_taken 2 bits ≡ got code rest → code < 4
 code_small code bits rest e = (number_taken_lem 2 bits code rest e).small
-
-pub idle_long : (scfsi : List ScfsiSlot) → scfsi ≡ nothing.scfsi → length scfsi ≡ 64
-unfolding nothing
-idle_long scfsi e = ap length e

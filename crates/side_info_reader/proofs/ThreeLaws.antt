@@ -1,8 +1,8 @@
 -- An index, and the three of a slot as they are read one after the other.
-use mathlib.Core.Path.{◌≡◌, refl, sym, ap, ◌∙◌, subst}
+use mathlib.Core.Path.{◌≡◌, refl, sym, ap, ◌∙◌}
 use mathlib.Core.Bool.{Bool, cond}
 use mathlib.Core.List.{List, ◌∷◌}
-use Prim.Native.Nat.{ℕ, suc, ◌≤◌, ◌<◌}
+use Prim.Native.Nat.{ℕ, suc, ◌-◌}
 use native.Mathlib.Omega.{arith}
 use lib.Dec.{eqb}
 use borrow.Author.Tests.{eq-eqb, ne_eqb}
@@ -11,69 +11,26 @@ use Rattle.audio_data.specs.declared.Scfsi.TheVariants.{ThreePerGranule, Share01
 use Rattle.audio_data.specs.Scfsi.{Three, three, parts_of, restored}
 use Rattle.side_info_reading.specs.Taken.{Taken, got, refused, and_then, number_taken}
 use Rattle.side_info_reading.specs.Reading.{index_taken, indices_taken, three_taken}
-use Rattle.side_info_reading.proofs.TakenLaws.{then_got, then_refused, number_taken_lem}
-use Rattle.side_info_reader.specs.declared.cursor.Cursor.{Cursor}
-use Rattle.side_info_reader.specs.declared.cursor.Number.{Number}
-use Rattle.side_info_reader.specs.declared.cursor.NumberRead.{NumberRead}
-use Rattle.side_info_reader.specs.declared.cursor.NumberRead.TheVariants as Num
-use Rattle.side_info_reader.specs.declared.Three as Indexed
-use Rattle.side_info_reader.specs.declared.ThreeRead.{ThreeRead}
-use Rattle.side_info_reader.specs.declared.ThreeRead.TheVariants as Read
-use Rattle.side_info_reader.specs.Cursor.{ahead, Steady, NumberIs}
-use Rattle.side_info_reader.specs.OnTheWay.{Tabled, IndexIs, three_got, three_in, Sound, ThreeIs, others_taken, last_taken}
-use Rattle.side_info_reader.proofs.CursorLaws.{number_got, number_steady, number_refused}
+use Rattle.side_info_reading.proofs.TakenLaws.{then_got, then_refused}
 
 -- ---- an index
 
 abbrev unless63 : ℕ → List Bool → Taken ℕ
 unless63 index rest = cond (eqb index 63) (refused 10) (got index rest)
 
-module _ (c : Cursor) (bytes : List ℕ) (r : NumberRead) (is : NumberIs bytes (number_taken 6 (ahead c bytes)) r) where
-  abbrev bits : List Bool
-  bits = ahead c bytes
+module _ (bits : List Bool) where
+  pub index_refused : (n : ℕ) → refused n ≡ number_taken 6 bits → refused n ≡ index_taken bits
+  index_refused n e = sym (then_refused unless63 (number_taken 6 bits) n (sym e))
 
-  pub index_refused : (n : ℕ) → r ≡ Num.Refused n → IndexIs c bytes (Num.Refused n)
-  index_refused n e = record {
-    number = record { whole = sym (then_refused unless63 (number_taken 6 bits) n (number_refused bytes _ r is n e)); steady = tt };
-    tabled = tt;
-  }
+  module _ (index : ℕ) (rest : List Bool) (e : got index rest ≡ number_taken 6 bits) where
+    unless : index_taken bits ≡ unless63 index rest
+    unless = then_got unless63 (number_taken 6 bits) index rest (sym e)
 
-  module _ (n : Number) (e : r ≡ Num.Got n) where
-    unless : index_taken bits ≡ unless63 n.value (ahead n.behind bytes)
-    unless = then_got unless63 (number_taken 6 bits) n.value (ahead n.behind bytes) (number_got bytes _ r is n e)
+    pub index_63 : index ≡ 63 → refused 10 ≡ index_taken bits
+    index_63 z = sym (unless ∙ ap (λ (b : Bool). cond b (refused 10) (got index rest)) (eq-eqb index 63 z))
 
-    pub index_63 : n.value ≡ 63 → IndexIs c bytes (Num.Refused 10)
-    index_63 z = record {
-      number = record {
-        whole = sym (unless ∙ ap (λ (b : Bool). cond b (refused 10) (got n.value (ahead n.behind bytes))) (eq-eqb n.value 63 z));
-        steady = tt;
-      };
-      tabled = tt;
-    }
-
-    pub index_got : (n.value ≡ 63 → ⊥) → IndexIs c bytes (Num.Got n)
-    index_got z = record {
-      number = record {
-        whole = sym (unless ∙ ap (λ (b : Bool). cond b (refused 10) (got n.value (ahead n.behind bytes))) (ne_eqb n.value 63 z));
-        steady = number_steady bytes _ r is n e;
-      };
-      tabled = let s : n.value < 64 = (number_taken_lem 6 bits n.value (ahead n.behind bytes) (number_got bytes _ r is n e)).small in
-          below63 n.value s z;
-    }
-      where
-        below63 : (k : ℕ) → k < 64 → (k ≡ 63 → ⊥) → k ≤ 62
-        below63 k s z = omega arith
-
--- what a match tells of an index
-module _ (c : Cursor) (bytes : List ℕ) (r : NumberRead) (is : IndexIs c bytes r) (n : Number) (e : r ≡ Num.Got n) where
-  pub index_tabled : n.value ≤ 62
-  index_tabled = subst Tabled e is.tabled
-
-  pub index_steady : Steady n.behind bytes
-  index_steady = number_steady bytes _ r is.number n e
-
-  pub index_is : index_taken (ahead c bytes) ≡ got n.value (ahead n.behind bytes)
-  index_is = number_got bytes _ r is.number n e
+    pub index_got : (index ≡ 63 → ⊥) → got index rest ≡ index_taken bits
+    index_got z = sym (unless ∙ ap (λ (b : Bool). cond b (refused 10) (got index rest)) (ne_eqb index 63 z))
 
 -- ---- one index after the other
 
@@ -93,65 +50,74 @@ module _ {A : Type 0} (g : List ℕ → A) (n : ℕ) where
       go (got i rest) = inner i (indices_taken n rest)
       go (refused m) = refl
 
-pub three_first : (s : Scfsi) (bits : List Bool) → three_taken s bits ≡ and_then (index_taken bits) (others_taken s)
+-- the three behind the first index, and behind the first two
+unfoldable pub others_taken : Scfsi → ℕ → List Bool → Taken Three
+unfolding and_then
+others_taken s a bits = and_then (indices_taken (parts_of s - 1) bits) (λ more. got (restored s (a ∷ more)))
+
+unfoldable pub last_taken : Scfsi → ℕ → ℕ → List Bool → Taken Three
+unfolding and_then
+last_taken s a b bits = and_then (indices_taken (parts_of s - 2) bits) (λ more. got (restored s (a ∷ b ∷ more)))
+
+three_first : (s : Scfsi) (bits : List Bool) → three_taken s bits ≡ and_then (index_taken bits) (others_taken s)
 unfolding others_taken
 three_first ThreePerGranule bits = indices_first (restored ThreePerGranule) 2 bits
 three_first Share01Then2 bits = indices_first (restored Share01Then2) 1 bits
 three_first ShareAll bits = indices_first (restored ShareAll) 0 bits
 three_first Share0Then12 bits = indices_first (restored Share0Then12) 1 bits
 
-pub others_none : (s : Scfsi) (a : ℕ) (bits : List Bool) → parts_of s ≡ 1 → others_taken s a bits ≡ got (three a a a) bits
+others_none : (s : Scfsi) (a : ℕ) (bits : List Bool) → parts_of s ≡ 1 → others_taken s a bits ≡ got (three a a a) bits
 unfolding others_taken
 others_none ThreePerGranule a bits e = absurd (omega (arith, e))
 others_none Share01Then2 a bits e = absurd (omega (arith, e))
 others_none ShareAll a bits e = refl
 others_none Share0Then12 a bits e = absurd (omega (arith, e))
 
-pub others_next : (s : Scfsi) (a : ℕ) (bits : List Bool) → (parts_of s ≡ 1 → ⊥) → others_taken s a bits ≡ and_then (index_taken bits) (last_taken s a)
+others_next : (s : Scfsi) (a : ℕ) (bits : List Bool) → (parts_of s ≡ 1 → ⊥) → others_taken s a bits ≡ and_then (index_taken bits) (last_taken s a)
 unfolding others_taken last_taken
 others_next ThreePerGranule a bits e = indices_first (λ is. restored ThreePerGranule (a ∷ is)) 1 bits
 others_next Share01Then2 a bits e = indices_first (λ is. restored Share01Then2 (a ∷ is)) 0 bits
 others_next ShareAll a bits e = absurd (e refl)
 others_next Share0Then12 a bits e = indices_first (λ is. restored Share0Then12 (a ∷ is)) 0 bits
 
-pub last_next : (a b : ℕ) (bits : List Bool) → last_taken ThreePerGranule a b bits ≡ and_then (index_taken bits) (λ c. got (three a b c))
+last_next : (a b : ℕ) (bits : List Bool) → last_taken ThreePerGranule a b bits ≡ and_then (index_taken bits) (λ c. got (three a b c))
 unfolding last_taken
 last_next a b bits = indices_first (λ is. restored ThreePerGranule (a ∷ b ∷ is)) 0 bits
 
-module _ (a b : ℕ) (bits : List Bool) where
-  pub last_01 : last_taken Share01Then2 a b bits ≡ got (three a a b) bits
+-- ---- as they are read
+
+module _ (s : Scfsi) (bits : List Bool) where
+  pub first_refused : (n : ℕ) → refused n ≡ index_taken bits → refused n ≡ three_taken s bits
+  first_refused n e = sym (three_first s bits ∙ then_refused (others_taken s) (index_taken bits) n (sym e))
+
+  module _ (a : ℕ) (behind : List Bool) (first : got a behind ≡ index_taken bits) where
+    others : three_taken s bits ≡ others_taken s a behind
+    others = three_first s bits ∙ then_got (others_taken s) (index_taken bits) a behind (sym first)
+
+    pub one_read : parts_of s ≡ 1 → got (three a a a) behind ≡ three_taken s bits
+    one_read e = sym (others ∙ others_none s a behind e)
+
+    module _ (more : parts_of s ≡ 1 → ⊥) where
+      pub second_refused : (n : ℕ) → refused n ≡ index_taken behind → refused n ≡ three_taken s bits
+      second_refused n e = sym (others ∙ others_next s a behind more ∙ then_refused (last_taken s a) (index_taken behind) n (sym e))
+
+      pub last : (b : ℕ) (rest : List Bool) → got b rest ≡ index_taken behind → three_taken s bits ≡ last_taken s a b rest
+      last b rest e = others ∙ others_next s a behind more ∙ then_got (last_taken s a) (index_taken behind) b rest (sym e)
+
+module _ (bits behind : List Bool) (a : ℕ) (first : got a behind ≡ index_taken bits) (b : ℕ) (rest : List Bool) (second : got b rest ≡ index_taken behind) where
+  pub two_read_01 : got (three a a b) rest ≡ three_taken Share01Then2 bits
   unfolding last_taken
-  last_01 = refl
+  two_read_01 = sym (last Share01Then2 bits a behind first (λ z. omega (arith, z)) b rest second)
 
-  pub last_all : last_taken ShareAll a b bits ≡ got (three a a a) bits
+  pub two_read_12 : got (three a b b) rest ≡ three_taken Share0Then12 bits
   unfolding last_taken
-  last_all = refl
+  two_read_12 = sym (last Share0Then12 bits a behind first (λ z. omega (arith, z)) b rest second)
 
-  pub last_12 : last_taken Share0Then12 a b bits ≡ got (three a b b) bits
-  unfolding last_taken
-  last_12 = refl
+  two : three_taken ThreePerGranule bits ≡ last_taken ThreePerGranule a b rest
+  two = last ThreePerGranule bits a behind first (λ z. omega (arith, z)) b rest second
 
--- ---- what is answered
+  pub third_refused : (n : ℕ) → refused n ≡ index_taken rest → refused n ≡ three_taken ThreePerGranule bits
+  third_refused n e = sym (two ∙ last_next a b rest ∙ then_refused (λ c. got (three a b c)) (index_taken rest) n (sym e))
 
-module _ (bytes : List ℕ) (taken : Taken Three) (r : ThreeRead) where
-  pub three_made : (a b c : ℕ) (k : Cursor) → r ≡ three_got a b c k → taken ≡ got (three a b c) (ahead k bytes) → Steady k bytes → a ≤ 62 → b ≤ 62 → c ≤ 62
-      → ThreeIs bytes taken r
-  three_made a b c k e t s p q u = rw e (record { whole = sym t; sound = (s, p, q, u) })
-
-  pub three_refused : (n : ℕ) → r ≡ Read.Refused n → taken ≡ refused n → ThreeIs bytes taken r
-  three_refused n e t = rw e (record { whole = sym t; sound = tt })
-
-  pub three_same : (other : Taken Three) → ThreeIs bytes other r → taken ≡ other → ThreeIs bytes taken r
-  three_same other i e = record { whole = i.whole ∙ sym e; sound = i.sound }
-
--- what a match tells of three
-module _ (bytes : List ℕ) (taken : Taken Three) (r : ThreeRead) (is : ThreeIs bytes taken r) where
-  pub no_three : (n : ℕ) → r ≡ Read.Refused n → taken ≡ refused n
-  no_three n e = sym (subst (λ (v : ThreeRead). three_in bytes v ≡ taken) e is.whole)
-
-  module _ (t : Indexed.Three) (e : r ≡ Read.Got t) where
-    pub three_is : taken ≡ got (three t.first t.second t.third) (ahead t.behind bytes)
-    three_is = sym (subst (λ (v : ThreeRead). three_in bytes v ≡ taken) e is.whole)
-
-    pub three_sound : Steady t.behind bytes × (t.first ≤ 62) × (t.second ≤ 62) × (t.third ≤ 62)
-    three_sound = subst (Sound bytes) e is.sound
+  pub three_read : (c : ℕ) (end : List Bool) → got c end ≡ index_taken rest → got (three a b c) end ≡ three_taken ThreePerGranule bits
+  three_read c end e = sym (two ∙ last_next a b rest ∙ then_got (λ k. got (three a b k)) (index_taken rest) c end (sym e))

@@ -1,2 +1,4 @@
-pub mod Cursor
+pub mod Ahead
+pub mod Errors
+pub mod BitReader
 pub mod OnTheWay

@@ -1,55 +1,44 @@
 // The reader of a frame's side information (ISO/IEC 11172-3 2.4.1.6): its allocation fields, scfsi and scalefactors from bits.
 #![tactic(auto)]
 
-ghost use Rattle.std.specs.Prelude.{◌≡◌, ◌≤◌, ◌<◌, length};
-ghost use Rattle.active_slots.specs.Active.{SlotsIn, listed, ActiveAre};
-ghost use Rattle.audio_data.specs.Scfsi.{three};
+ghost use Rattle.std.specs.Prelude.{◌≡◌, ◌≤◌, ◌<◌, length, MatchResult};
+ghost use Rattle.active_slots.specs.Active.{SlotsIn, listed};
 ghost use Rattle.side_info_reading.specs.Taken.{laid};
-ghost use Rattle.side_info_reading.specs.Reading.{in_slots, in_granules, nothing, scfsis_taken, three_taken};
+ghost use Rattle.side_info_reading.specs.Reading.{in_slots, in_granules, nothing, allocation_taken, scfsis_taken, scalefactors_taken, index_taken, three_taken};
 ghost use Rattle.side_info_reading.specs.Read.{read, ReadIs};
-ghost use Rattle.side_info_reader.specs.Cursor.{ahead, Steady};
-ghost use Rattle.side_info_reader.specs.OnTheWay.{StepsAt, SectionIs, fields_from, IndexIs, three_got, ThreeIs, others_taken, last_taken, indices_from, read_under, BehindFields, BehindScfsi};
+ghost use Rattle.side_info_reader.specs.Errors.{question_number, taken_by};
+ghost use Rattle.side_info_reader.specs.OnTheWay.{StepsAt, three_in, three_by, read_under};
 
 use active_slots::ActiveSlots;
 use audio_data::{Scfsi, ScfsiSlot};
 use bitalloc::BitAllocTable;
-use encoder_bit_budget::Budget;
 use header::FrameHeader;
 use layout::{AllocationField, Layout};
 use side_info_reading::ReadSideInfo;
 
-mod cursor;
+mod bit_reader;
 
-use cursor::{Cursor, NumberRead};
+use bit_reader::BitReader;
 
-// The cursor behind what was read, or the number of the refusal.
-#[derive(Clone, Copy)]
-enum Section {
-    Done(Cursor),
-    Refused(u32),
+// Why bytes are not read.
+#[derive(Clone, Copy, PartialEq, Eq)]
+enum ReadError {
+    // The bytes end before the side information does.
+    EndOfBytes,
+    // A scalefactor index is 63, which Table 3-B.1 does not have.
+    ReservedIndex,
 }
 
-// The scfsi by slot, and the section that was read.
-#[derive(Clone, Copy)]
-struct ScfsiRead {
-    scfsi: [ScfsiSlot; 64],
-    section: Section,
-}
-
-// The scalefactor indices of a slot, and the cursor behind them.
-#[derive(Clone, Copy)]
-struct Three {
-    first: u32,
-    second: u32,
-    third: u32,
-    behind: Cursor,
-}
-
-// The indices, or the number of the refusal.
-#[derive(Clone, Copy)]
-enum ThreeRead {
-    Got(Three),
-    Refused(u32),
+impl ReadError {
+    // The number of the question that says no.
+    fn number(self) -> u32
+        ensures { result ≡ question_number self }
+    {
+        match self {
+            ReadError::EndOfBytes => 9,
+            ReadError::ReservedIndex => 10,
+        }
+    }
 }
 
 // The steps at a place of a subband's row.
@@ -75,31 +64,20 @@ fn put_steps(field: AllocationField, steps: u32, nb_steps: &mut [u32; 64])
     }
 }
 
-// The allocation fields, field by field.
-fn read_allocation(layout: Layout, bytes: &[u8], nb_steps: &mut [u32; 64]) -> Section
-    requires { length nb_steps.old ≡ 64 }
-    ensures { SectionIs bytes.now nb_steps.new (fields_from layout bytes.now nb_steps.old) result }
+// The allocation fields, field by field: the steps by slot.
+fn read_allocation(layout: Layout, reader: &mut BitReader) -> Result<[u32; 64], ReadError>
+    ensures taken { taken_by result reader.new.ahead ≡ allocation_taken layout reader.old.ahead }
+    ensures all { reader.new.all ≡ reader.old.all }
 {
     let table = layout.table;
-    let fields = layout.fields();
-    let mut cursor = cursor::new();
-    let mut f: usize = 0;
-    while f < fields {
+    let mut nb_steps = [0; 64];
+    for f in 0..layout.fields() {
         let field = layout.field(f);
         let sb = field.subband;
-        let read = cursor::take(cursor, table.nbal(sb), bytes);
-        match read {
-            NumberRead::Got(place) => {
-                put_steps(field, steps_at(table, sb, place.value), nb_steps);
-                cursor = place.behind;
-            }
-            NumberRead::Refused(number) => {
-                return Section::Refused(number);
-            }
-        }
-        f = f + 1;
+        let place = reader.take(table.nbal(sb))?;
+        put_steps(field, steps_at(table, sb, place), &mut nb_steps);
     }
-    Section::Done(cursor)
+    Ok(nb_steps)
 }
 
 // The scfsi of slots that send none.
@@ -112,159 +90,86 @@ fn idle() -> [ScfsiSlot; 64]
 }
 
 // The scfsi of the active slots, two bits each.
-fn read_scfsi(active: ActiveSlots, start: Cursor, bytes: &[u8]) -> ScfsiRead
-    requires { SlotsIn active × Steady start bytes.now }
-    ensures { SectionIs bytes.now result.scfsi (scfsis_taken (listed active) (ahead start bytes.now)) result.section }
+fn read_scfsi(active: ActiveSlots, reader: &mut BitReader) -> Result<[ScfsiSlot; 64], ReadError>
+    requires { SlotsIn active }
+    ensures taken { taken_by result reader.new.ahead ≡ scfsis_taken (listed active) reader.old.ahead }
+    ensures all { reader.new.all ≡ reader.old.all }
 {
-    let slots = active.slots;
-    let count = active.count;
     let mut scfsi = idle();
-    let mut cursor = start;
-    let mut k: usize = 0;
-    while k < count {
-        let slot = slots[k] as usize;
-        let read = cursor::take(cursor, 2, bytes);
-        match read {
-            NumberRead::Got(code) => {
-                scfsi[slot] = ScfsiSlot {
-                    scfsi: Scfsi::of_code(code.value as u8),
-                };
-                cursor = code.behind;
-            }
-            NumberRead::Refused(number) => {
-                return ScfsiRead {
-                    scfsi,
-                    section: Section::Refused(number),
-                };
-            }
-        }
-        k = k + 1;
+    for slot in &active.slots[..active.count] {
+        let code = reader.take(2)?;
+        scfsi[usize::from(*slot)] = ScfsiSlot {
+            scfsi: Scfsi::of_code(code as u8),
+        };
     }
-    ScfsiRead {
-        scfsi,
-        section: Section::Done(cursor),
-    }
+    Ok(scfsi)
 }
 
 // A scalefactor index: six bits, of which 63 is refused.
-fn read_index(cursor: Cursor, bytes: &[u8]) -> NumberRead
-    requires { Steady cursor bytes.now }
-    ensures { IndexIs cursor bytes.now result }
+fn read_index(reader: &mut BitReader) -> Result<u8, ReadError>
+    ensures taken { taken_by result reader.new.ahead ≡ index_taken reader.old.ahead }
+    ensures all { reader.new.all ≡ reader.old.all }
 {
-    let read = cursor::take(cursor, 6, bytes);
-    match read {
-        NumberRead::Got(index) => {
-            if index.value == 63 {
-                NumberRead::Refused(10)
-            } else {
-                NumberRead::Got(index)
-            }
-        }
-        NumberRead::Refused(number) => NumberRead::Refused(number),
+    let index = reader.take(6)?;
+    if index == 63 {
+        return Err(ReadError::ReservedIndex);
     }
+    Ok(index as u8)
 }
 
-// The scalefactors of a slot: as many indices as its scfsi sends.
-fn read_three(scfsi: Scfsi, cursor: Cursor, bytes: &[u8]) -> ThreeRead
-    requires { Steady cursor bytes.now }
-    ensures { ThreeIs bytes.now (three_taken scfsi (ahead cursor bytes.now)) result }
+// The scalefactor indices of a slot, one for each granule: as many as its scfsi sends.
+fn read_three(scfsi: Scfsi, reader: &mut BitReader) -> Result<[u8; 3], ReadError>
+    ensures taken { three_by result reader.new.ahead ≡ three_taken scfsi reader.old.ahead }
+    ensures all { reader.new.all ≡ reader.old.all }
 {
-    let read = read_index(cursor, bytes);
-    match read {
-        NumberRead::Got(first) => read_others(scfsi, first.value, first.behind, bytes),
-        NumberRead::Refused(number) => ThreeRead::Refused(number),
-    }
-}
-
-// Behind the first index.
-fn read_others(scfsi: Scfsi, first: u32, cursor: Cursor, bytes: &[u8]) -> ThreeRead
-    requires { Steady cursor bytes.now × (first ≤ 62) }
-    ensures { ThreeIs bytes.now (others_taken scfsi first (ahead cursor bytes.now)) result }
-{
-    if scfsi.parts_on_wire() == 1 {
-        return made(first, first, first, cursor);
-    }
-    let read = read_index(cursor, bytes);
-    match read {
-        NumberRead::Got(next) => read_last(scfsi, first, next.value, next.behind, bytes),
-        NumberRead::Refused(number) => ThreeRead::Refused(number),
-    }
-}
-
-// Behind the second.
-fn read_last(scfsi: Scfsi, first: u32, second: u32, cursor: Cursor, bytes: &[u8]) -> ThreeRead
-    requires { Steady cursor bytes.now × (first ≤ 62) × (second ≤ 62) }
-    ensures { ThreeIs bytes.now (last_taken scfsi first second (ahead cursor bytes.now)) result }
-{
+    let first = read_index(reader)?;
     match scfsi {
         Scfsi::ThreePerGranule => {
-            let read = read_index(cursor, bytes);
-            match read {
-                NumberRead::Got(third) => made(first, second, third.value, third.behind),
-                NumberRead::Refused(number) => ThreeRead::Refused(number),
-            }
+            let second = read_index(reader)?;
+            let third = read_index(reader)?;
+            Ok([first, second, third])
         }
-        Scfsi::Share01Then2 => made(first, first, second, cursor),
-        Scfsi::ShareAll => made(first, first, first, cursor),
-        Scfsi::Share0Then12 => made(first, second, second, cursor),
+        Scfsi::Share01Then2 => {
+            let second = read_index(reader)?;
+            Ok([first, first, second])
+        }
+        Scfsi::ShareAll => Ok([first, first, first]),
+        Scfsi::Share0Then12 => {
+            let second = read_index(reader)?;
+            Ok([first, second, second])
+        }
     }
-}
-
-// Three indices that were read.
-fn made(first: u32, second: u32, third: u32, behind: Cursor) -> ThreeRead
-    ensures { result ≡ three_got first second third behind }
-{
-    ThreeRead::Got(Three {
-        first,
-        second,
-        third,
-        behind,
-    })
 }
 
 // The indices of a slot, one for each granule.
-fn put_three(slot: usize, first: u32, second: u32, third: u32, scalefactor: &mut [u8; 192])
-    requires { (slot < 64) × (first ≤ 62) × (second ≤ 62) × (third ≤ 62) × (length scalefactor.old ≡ 192) }
-    ensures { scalefactor.new ≡ laid (in_granules slot (three first second third)) scalefactor.old }
+fn put_three(slot: usize, indices: [u8; 3], scalefactor: &mut [u8; 192])
+    requires { (slot < 64) × (length scalefactor.old ≡ 192) }
+    ensures { scalefactor.new ≡ laid (in_granules slot (three_in indices)) scalefactor.old }
 {
     let at = 3 * slot;
-    scalefactor[at] = first as u8;
-    scalefactor[at + 1] = second as u8;
-    scalefactor[at + 2] = third as u8;
+    scalefactor[at] = indices[0];
+    scalefactor[at + 1] = indices[1];
+    scalefactor[at + 2] = indices[2];
 }
 
 // The scalefactors of the active slots.
 fn read_scalefactors(
     active: ActiveSlots,
     scfsi: [ScfsiSlot; 64],
-    start: Cursor,
-    bytes: &[u8],
-    scalefactor: &mut [u8; 192],
-) -> Section
-    requires { SlotsIn active × Steady start bytes.now × (length scalefactor.old ≡ 192) }
-    ensures { SectionIs bytes.now scalefactor.new (indices_from scfsi (listed active) start bytes.now scalefactor.old) result }
+    reader: &mut BitReader,
+) -> Result<[u8; 192], ReadError>
+    requires { SlotsIn active }
+    ensures taken { taken_by result reader.new.ahead ≡ scalefactors_taken scfsi (listed active) reader.old.ahead }
+    ensures all { reader.new.all ≡ reader.old.all }
 {
-    let slots = active.slots;
-    let count = active.count;
-    let mut cursor = start;
-    let mut k: usize = 0;
-    while k < count {
-        let slot = slots[k] as usize;
+    let mut scalefactor = [0; 192];
+    for slot in &active.slots[..active.count] {
+        let slot = usize::from(*slot);
         let at_slot = scfsi[slot];
-        let chosen = at_slot.scfsi;
-        let read = read_three(chosen, cursor, bytes);
-        match read {
-            ThreeRead::Got(three) => {
-                put_three(slot, three.first, three.second, three.third, scalefactor);
-                cursor = three.behind;
-            }
-            ThreeRead::Refused(number) => {
-                return Section::Refused(number);
-            }
-        }
-        k = k + 1;
+        let indices = read_three(at_slot.scfsi, reader)?;
+        put_three(slot, indices, &mut scalefactor);
     }
-    Section::Done(cursor)
+    Ok(scalefactor)
 }
 
 // A refusal.
@@ -280,56 +185,31 @@ fn refused(number: u32) -> ReadSideInfo
     }
 }
 
-// Behind scfsi: the scalefactors, and the answer.
-fn read_indices(
-    layout: Layout,
-    nb_steps: [u32; 64],
-    active: ActiveSlots,
-    scfsi: [ScfsiSlot; 64],
-    start: Cursor,
-    bytes: &[u8],
-) -> ReadSideInfo
-    requires { ActiveAre layout nb_steps active × Steady start bytes.now × BehindScfsi layout bytes.now nb_steps scfsi start }
-    ensures { result ≡ read_under layout bytes.now }
+// The three sections in the layout of an accepted header.
+fn read_sections(layout: Layout, bytes: &[u8]) -> Result<ReadSideInfo, ReadError>
+    ensures { MatchResult result (λ r. r ≡ read_under layout bytes.now) (λ e. read (question_number e) nothing 0 ≡ read_under layout bytes.now) }
 {
-    let mut scalefactor = [0; 192];
-    let read = read_scalefactors(active, scfsi, start, bytes, &mut scalefactor);
-    match read {
-        Section::Done(end) => ReadSideInfo {
-            number: 0,
-            nb_steps,
-            scfsi,
-            scalefactor,
-            bits_used: 8 * (end.at as u32) - end.count,
-        },
-        Section::Refused(number) => refused(number),
-    }
-}
-
-// Behind the allocation: scfsi, and what follows.
-fn read_slots(layout: Layout, nb_steps: [u32; 64], start: Cursor, bytes: &[u8]) -> ReadSideInfo
-    requires { Steady start bytes.now × BehindFields layout bytes.now nb_steps start }
-    ensures { result ≡ read_under layout bytes.now }
-{
+    let mut reader = BitReader::new(bytes);
+    let nb_steps = read_allocation(layout, &mut reader)?;
     let active = active_slots::active_slots(layout, nb_steps);
-    let read = read_scfsi(active, start, bytes);
-    let scfsi = read.scfsi;
-    let section = read.section;
-    match section {
-        Section::Done(cursor) => read_indices(layout, nb_steps, active, scfsi, cursor, bytes),
-        Section::Refused(number) => refused(number),
-    }
+    let scfsi = read_scfsi(active, &mut reader)?;
+    let scalefactor = read_scalefactors(active, scfsi, &mut reader)?;
+    Ok(ReadSideInfo {
+        number: 0,
+        nb_steps,
+        scfsi,
+        scalefactor,
+        bits_used: reader.bits_used(),
+    })
 }
 
 // The answer in the layout of an accepted header.
 fn read_under(layout: Layout, bytes: &[u8]) -> ReadSideInfo
     ensures { result ≡ read_under layout bytes.now }
 {
-    let mut nb_steps = [0; 64];
-    let read = read_allocation(layout, bytes, &mut nb_steps);
-    match read {
-        Section::Done(cursor) => read_slots(layout, nb_steps, cursor, bytes),
-        Section::Refused(number) => refused(number),
+    match read_sections(layout, bytes) {
+        Ok(read) => read,
+        Err(error) => refused(error.number()),
     }
 }
 
@@ -340,7 +220,7 @@ pub fn read_side_info(header: FrameHeader, bytes: &[u8]) -> ReadSideInfo
 {
     let budget = encoder_bit_budget::fixed_bit_budget(header);
     match budget {
-        Budget::Ok(b) => read_under(b.layout(), bytes),
-        Budget::Refused(error) => refused(error.number()),
+        Ok(b) => read_under(b.layout(), bytes),
+        Err(error) => refused(error.number()),
     }
 }

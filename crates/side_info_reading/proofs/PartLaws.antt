@@ -1,8 +1,9 @@
 -- An allocation field, a scfsi and the scalefactors of a slot: what was sent is taken, and what was taken was sent.
+use Rattle.std.proofs.lemmas.Option.{same_Some}
+use Rattle.std.specs.Prelude.{Option, None, Some, is_some}
 use mathlib.Core.Path.{◌≡◌, refl, sym, ap, ap₂, ◌∙◌, subst}
 use mathlib.Core.Bool.{Bool, true, false, cond, ◌&&◌, true≢false}
 use mathlib.Core.List.{List, [], ◌∷◌, ◌++◌, append_assoc, map, flat_map}
-use mathlib.Core.Option.{Option, none, some, some-injective}
 use Prim.Native.Nat.{ℕ, zero, suc, ◌^◌, ◌≤◌, ◌<◌}
 use native.Mathlib.Omega.{arith}
 use lib.Dec.{eqb, leb, lit<}
@@ -10,7 +11,7 @@ use lib.ListN.{length, get_or}
 use borrow.Author.Tests.{eqb-true, eqb-false, eq-eqb, ne_eqb, leb-true, le-leb}
 use Rattle.tables.proofs.Rule.{both_true}
 use Rattle.tables.proofs.Search.{there}
-use Rattle.bitalloc.specs.Options.{is_some, or_zero}
+use Rattle.bitalloc.specs.Options.{or_zero}
 use Rattle.bitalloc.specs.Tables.{nbal_of, row_of, steps_at, index_of}
 use Rattle.bitalloc.proofs.RowLaws.{row_rule, index_small, index_of_steps, steps_of_index}
 use Rattle.layout.specs.declared.Layout.{Layout}
@@ -50,20 +51,20 @@ module _ (l : Layout) (x : AllocationField) (f : Field l x) where
   inside : (p : ℕ) → p < 2 ^ width → p < length row
   inside p h = rw (row_rule l.table x.subband f.carried).places h
 
-  at_place : (p n : ℕ) → p < 2 ^ width → get_or row p 0 ≡ n → index_of l.table x.subband n ≡ some p
+  at_place : (p n : ℕ) → p < 2 ^ width → get_or row p 0 ≡ n → index_of l.table x.subband n ≡ Some p
   unfolding steps_at
-  at_place p n h v = index_of_steps l.table x.subband p n (there row p 0 (inside p h) ∙ ap some v)
+  at_place p n h v = index_of_steps l.table x.subband p n (there row p 0 (inside p h) ∙ ap Some v)
 
-  steps_there : (p n : ℕ) → p < 2 ^ width → index_of l.table x.subband n ≡ some p → get_or row p 0 ≡ n
+  steps_there : (p n : ℕ) → p < 2 ^ width → index_of l.table x.subband n ≡ Some p → get_or row p 0 ≡ n
   unfolding steps_at
-  steps_there p n h e = some-injective _ _ (sym (there row p 0 (inside p h)) ∙ steps_of_index l.table x.subband p n e)
+  steps_there p n h e = same_Some _ _ (sym (there row p 0 (inside p h)) ∙ steps_of_index l.table x.subband p n e)
 
   pub field_sent_lem : (n : ℕ) (rest : List Bool) → InRow l x n → field_taken l x (field_wire l x n ++ rest) ≡ got n rest
   field_sent_lem n rest i = go (index_of l.table x.subband n) refl i
     where
       go : (o : Option ℕ) → index_of l.table x.subband n ≡ o → is_some o ≡ true → field_taken l x (bits_of width (or_zero o) ++ rest) ≡ got n rest
-      go none e i = absurd (true≢false (sym i))
-      go (some p) e i =
+      go None e i = absurd (true≢false (sym i))
+      go (Some p) e i =
           let small = index_small l.table x.subband n p f.carried e in
           then_got (λ place. got (get_or row place 0)) (number_taken width (bits_of width p ++ rest)) p rest (number_sent width p rest small)
           ∙ ap (λ (m : ℕ). got m rest) (steps_there p n small e)

@@ -9,6 +9,7 @@ use native.Mathlib.Omega.{arith}
 use lib.ListN.{length, get_or, drop, drop_of_length-le}
 use lib.Seq.{drop-cons}
 use borrow.Author.Count.{below_more}
+use Rattle.std.specs.Prelude.{Ok, Err}
 use Rattle.header.specs.Questions.{Question, number}
 use Rattle.header.proofs.QuestionLaws.{said_yes, said_no}
 use Rattle.layout.specs.declared.Layout.{Layout}
@@ -16,9 +17,9 @@ use Rattle.layout.specs.declared.AllocationField.{AllocationField}
 use Rattle.layout.specs.Layout.{own, fields_of, field_in}
 use Rattle.side_info.specs.SideInfo.{side_info, field_asked, scalefactor_asked}
 use Rattle.side_info.proofs.FlatLaws.{flat_next, flat_end}
-use Rattle.side_info_writer.specs.declared.FieldPlace.TheVariants as Place
-use Rattle.side_info_writer.specs.OnTheWay.{found, Passed, Stopped, steps_alone, TabledAre}
-use Rattle.side_info_writer.proofs.PlaceLaws.{place_passes, place_stops, place_refuses}
+use Rattle.side_info_writer.specs.declared.WriteError.{WriteError}
+use Rattle.side_info_writer.specs.OnTheWay.{question_number, found, Passed, Stopped, steps_alone, TabledAre}
+use Rattle.side_info_writer.proofs.PlaceLaws.{place_passes, place_stops}
 
 -- ---- question 8, slot by slot
 
@@ -77,14 +78,13 @@ module _ (l : Layout) (steps : List ℕ) where
         ∙ ap (λ (y : AllocationField). field_asked l (steps_alone steps) y ++ fields_asked (drop (f + 1) (fields_of l))) (sym e))
         ∙ ap number (append_assoc (field_asked l (steps_alone steps) x) (fields_asked (drop (f + 1) (fields_of l))) rest)
 
-    pub one_passed : (p : ℕ) → Place.At p ≡ found l.table x (get_or steps x.subband 0) (get_or steps (32 + x.subband) 0) → PassedTo (f + 1)
+    pub one_passed : (p : ℕ) → Ok p ≡ found l.table x (get_or steps x.subband 0) (get_or steps (32 + x.subband) 0) → PassedTo (f + 1)
     one_passed p a = record { decides = λ rest. next_field rest ∙ place_passes l (steps_alone steps) x channel p a (fields_asked (drop (f + 1) (fields_of l)) ++ rest) }
 
-    pub one_stopped : (n : ℕ) → Place.Refused n ≡ found l.table x (get_or steps x.subband 0) (get_or steps (32 + x.subband) 0)
-        → Stopped (fields_asked (fields_of l)) n
-    one_stopped n a = record {
-      decides = λ rest. next_field rest ∙ place_stops l (steps_alone steps) x channel n a (fields_asked (drop (f + 1) (fields_of l)) ++ rest);
-      refused = place_refuses l (steps_alone steps) x channel n a;
+    pub one_stopped : (error : WriteError) → Err error ≡ found l.table x (get_or steps x.subband 0) (get_or steps (32 + x.subband) 0)
+        → Stopped (fields_asked (fields_of l)) (question_number error)
+    one_stopped error a = record {
+      decides = λ rest. next_field rest ∙ place_stops l (steps_alone steps) x channel error a (fields_asked (drop (f + 1) (fields_of l)) ++ rest);
     }
 
   pub all_passed : (f : ℕ) → length (fields_of l) ≤ f → PassedTo f → Passed (fields_asked (fields_of l))

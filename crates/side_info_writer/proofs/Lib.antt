@@ -1,4 +1,4 @@
-pub mod PenLaws
+pub mod WriterLaws
 pub mod PartLaws
 pub mod PlaceLaws
 pub mod AskedLaws

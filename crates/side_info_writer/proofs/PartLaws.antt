@@ -1,10 +1,10 @@
 -- What is written slot by slot and field by field: a part, and the parts so far.
-use mathlib.Core.Path.{◌≡◌, refl, sym, ap, ◌∙◌, subst}
+use mathlib.Core.Path.{◌≡◌, refl, sym, ap, ◌∙◌}
 use mathlib.Core.Bool.{Bool, true, false, ◌&&◌, true≢false}
-use mathlib.Core.List.{List, [], ◌++◌, append-nil, append_assoc, flat_map}
+use mathlib.Core.List.{List, ◌++◌, append-nil, append_assoc, flat_map}
 use Prim.Native.Nat.{ℕ, ◌+◌, ◌≤◌, ◌<◌}
 use native.Mathlib.Omega.{arith}
-use lib.Dec.{eqb, leb, ltb, lit<}
+use lib.Dec.{eqb, leb, ltb}
 use lib.ListN.{length, get_or, drop, length-append}
 use borrow.Author.Tests.{leb-true}
 use Rattle.layout.specs.declared.Layout.{Layout}
@@ -17,47 +17,7 @@ use Rattle.bit_string.specs.Bits.{bits_of}
 use Rattle.side_info.specs.SideInfo.{SideInfo, tabled, allocation_field_bits}
 use Rattle.side_info.proofs.CountLaws.{fields_count}
 use Rattle.side_info.proofs.FlatLaws.{flat_next, flat_end}
-use Rattle.side_info_writer.specs.declared.pen.Pen.{Pen}
-use Rattle.side_info_writer.specs.Pen.{position, Steady, Wrote}
 use Rattle.side_info_writer.specs.OnTheWay.{where_sent}
-use Rattle.side_info_writer.proofs.PenLaws.{wrote_nothing, wrote_on}
-
--- ---- the parts so far
-
--- bits were written, and with those to come they are the whole
-pub record Partly (p : Pen) (old : List ℕ) (q : Pen) (now : List ℕ) (come whole : List Bool) : Type 0 where
-  pub so_far : List Bool
-  pub wrote : Wrote p old so_far q now
-  pub makes : so_far ++ come ≡ whole
-
-module _ (p : Pen) (old : List ℕ) where
-  pub none_yet : (whole : List Bool) → Steady p → Partly p old p old whole whole
-  none_yet whole steady = record { so_far = []; wrote = wrote_nothing p old steady; makes = refl }
-
-  module _ (q : Pen) (now : List ℕ) (whole : List Bool) where
-    -- the next part is written
-    pub one_more : (r : Pen) (new : List ℕ) (part come rest : List Bool) → come ≡ part ++ rest → Partly p old q now come whole → Wrote q now part r new
-        → Partly p old r new rest whole
-    one_more r new part come rest e s w = record {
-      so_far = s.so_far ++ part;
-      wrote = wrote_on p q r old now new s.so_far part s.wrote w;
-      makes = append_assoc s.so_far part rest ∙ ap (λ (bs : List Bool). s.so_far ++ bs) (sym e) ∙ s.makes;
-    }
-
-    -- there is room for it
-    pub room : (n : ℕ) (part come rest : List Bool) → come ≡ part ++ rest → Partly p old q now come whole → position p + length whole ≤ n
-        → position q + length part ≤ n
-    room n part come rest e s h =
-        let a = ap length s.makes in
-        let b = length-append s.so_far come in
-        let c = ap length e in
-        let d = length-append part rest in
-        let m = s.wrote.moved in
-        omega arith
-
-    pub all_written : (come : List Bool) → come ≡ [] → Partly p old q now come whole → Wrote p old whole q now
-    all_written come e s =
-        subst (λ (bs : List Bool). Wrote p old bs q now) (sym (append-nil s.so_far) ∙ ap (λ (bs : List Bool). s.so_far ++ bs) (sym e) ∙ s.makes) s.wrote
 
 -- ---- the indices of a slot
 
@@ -103,55 +63,46 @@ module _ (s : Scfsi) (t : Three) (parts : ℕ) (e : parts ≡ parts_of s) where
   long : length (flat_map (bits_of 6) (sent s t)) ≡ length a + (length b + length c)
   long = ap length apart ∙ length-append a (b ++ c) ∙ ap (λ (n : ℕ). length a + n) (length-append b c)
 
-  module _ (p : Pen) (bytes : List ℕ) (h : position p + length (flat_map (bits_of 6) (sent s t)) ≤ 1392) where
-    pub first_fits : position p + length a ≤ 1392
+  module _ (start : List Bool) (h : length start + length (flat_map (bits_of 6) (sent s t)) ≤ 1392) where
+    pub first_fits : length start + length a ≤ 1392
     first_fits = let l = long in omega arith
 
-    module _ (q : Pen) (after : List ℕ) (w : Wrote p bytes a q after) where
-      pub second_fits : position q + length b ≤ 1392
-      second_fits = let l = long in let m = w.moved in omega arith
+    pub second_fits : length (start ++ a) + length b ≤ 1392
+    second_fits = let l = long in let m = length-append start a in omega arith
 
-      module _ (r : Pen) (later : List ℕ) (v : Wrote q after b r later) where
-        pub third_fits : position r + length c ≤ 1392
-        third_fits = let l = long in let m = w.moved in let n = v.moved in omega arith
+    pub third_fits : length ((start ++ a) ++ b) + length c ≤ 1392
+    third_fits = let l = long in let m = length-append start a in let n = length-append (start ++ a) b in omega arith
 
-        pub three_written : (z : Pen) (last : List ℕ) → Wrote r later c z last → Wrote p bytes (flat_map (bits_of 6) (sent s t)) z last
-        three_written z last u = rw apart (wrote_on p q z bytes after last a (b ++ c) w (wrote_on q r z after later last b c v u))
+    pub three_written : ((start ++ a) ++ b) ++ c ≡ start ++ flat_map (bits_of 6) (sent s t)
+    three_written = append_assoc (start ++ a) b c ∙ append_assoc start a (b ++ c) ∙ ap (λ (bs : List Bool). start ++ bs) (sym apart)
 
--- ---- one part for each entry of a list
+-- ---- one part for each entry of a list: those so far and those to come are the whole
 
-module _ {A : Type 0} (xs : List A) (g : A → List Bool) (k : ℕ) (d x : A) (here : k < length xs) (e : x ≡ get_or xs k d) where
-  abbrev come : List Bool
-  come = flat_map g (drop k xs)
+module _ {A : Type 0} (xs : List A) (g : A → List Bool) (start now : List Bool) (k : ℕ) (so_far : now ++ flat_map g (drop k xs) ≡ start ++ flat_map g xs) where
+  module _ (d x : A) (here : k < length xs) (e : x ≡ get_or xs k d) where
+    abbrev rest : List Bool
+    rest = flat_map g (drop (k + 1) xs)
 
-  abbrev rest : List Bool
-  rest = flat_map g (drop (k + 1) xs)
+    next : flat_map g (drop k xs) ≡ g x ++ rest
+    next = flat_next g xs k d here ∙ ap (λ (y : A). g y ++ rest) (sym e)
 
-  next : come ≡ g x ++ rest
-  next = flat_next g xs k d here ∙ ap (λ (y : A). g y ++ rest) (sym e)
-
-  module _ (p : Pen) (old : List ℕ) (q : Pen) (now : List ℕ) (s : Partly p old q now come (flat_map g xs)) where
     -- there is room for the entry's part
-    pub part_fits : (n : ℕ) → position p + length (flat_map g xs) ≤ n → position q + length (g x) ≤ n
-    part_fits n h = room p old q now (flat_map g xs) n (g x) come rest next s h
+    pub part_fits : (n : ℕ) → length start + length (flat_map g xs) ≤ n → length now + length (g x) ≤ n
+    part_fits n h =
+        let a = ap length so_far in
+        let b = length-append now (flat_map g (drop k xs)) in
+        let c = ap length next in
+        let d = length-append (g x) rest in
+        let f = length-append start (flat_map g xs) in
+        omega arith
 
-    pub part_written : (r : Pen) (new : List ℕ) → Wrote q now (g x) r new → Partly p old r new rest (flat_map g xs)
-    part_written r new w = one_more p old q now (flat_map g xs) r new (g x) come rest next s w
+    pub part_written : (now ++ g x) ++ rest ≡ start ++ flat_map g xs
+    part_written = append_assoc now (g x) rest ∙ ap (λ (bs : List Bool). now ++ bs) (sym next) ∙ so_far
 
--- no entry is left
-pub parts_written : {A : Type 0} (xs : List A) (g : A → List Bool) (k : ℕ) → length xs ≤ k → (p : Pen) (old : List ℕ) (q : Pen) (now : List ℕ)
-    → Partly p old q now (flat_map g (drop k xs)) (flat_map g xs) → Wrote p old (flat_map g xs) q now
-parts_written xs g k h p old q now s = all_written p old q now (flat_map g xs) _ (flat_end g xs k h) s
-
--- ---- the first part of the side information
-
--- a new pen holds nothing
-pub begun_parts : (p : Pen) (bytes : List ℕ) (whole : List Bool) → p ≡ record { at = 0; held = 0; count = 0 }
-    → Partly (record { at = 0; held = 0; count = 0 }) bytes p bytes whole whole
-begun_parts p bytes whole e =
-    subst (λ (q : Pen). Partly (record { at = 0; held = 0; count = 0 }) bytes q bytes whole whole) (sym e)
-    (none_yet (record { at = 0; held = 0; count = 0 }) bytes whole (record { few = lit< tt; small = lit< tt }))
+  -- no entry is left
+  pub parts_written : length xs ≤ k → now ≡ start ++ flat_map g xs
+  parts_written h = sym (append-nil now) ∙ ap (λ (bs : List Bool). now ++ bs) (sym (flat_end g xs k h)) ∙ so_far
 
 -- the allocation fields have 188 bits at most
-pub fields_fit : (l : Layout) (r : SideInfo) → 0 + length (flat_map (allocation_field_bits l r) (fields_of l)) ≤ 188
+pub fields_fit : (l : Layout) (r : SideInfo) → length (flat_map (allocation_field_bits l r) (fields_of l)) ≤ 188
 fields_fit l r = let e = fields_count l r in omega (arith, allocation_small l)

@@ -2,16 +2,16 @@
 use mathlib.Core.Path.{◌≡◌, refl, sym, ap, ap₂, ◌∙◌}
 use mathlib.Core.Bool.{Bool, true, false, cond}
 use mathlib.Core.List.{List, ◌∷◌, ◌++◌}
-use mathlib.Core.Option.{Option, none, some}
 use Prim.Native.Nat.{ℕ, zero, suc, ◌+◌, ◌^◌, ◌<◌}
 use native.Mathlib.Nat.{zero-add}
 use native.Mathlib.Omega.{arith}
 use lib.Dec.{eqb}
 use lib.ListN.{length, get_or}
+use Rattle.std.specs.Prelude.{Ok, Err, Option, None, Some, is_some}
 use Rattle.header.specs.Questions.{Question, number}
 use Rattle.header.proofs.QuestionLaws.{said_yes}
 use Rattle.bitalloc.specs.declared.BitAllocTable.{BitAllocTable}
-use Rattle.bitalloc.specs.Options.{is_some, or_zero}
+use Rattle.bitalloc.specs.Options.{or_zero}
 use Rattle.bitalloc.specs.Tables.{sblimit_of, nbal_of, index_of}
 use Rattle.bitalloc.proofs.RowLaws.{index_small}
 use Rattle.layout.specs.declared.Layout.{Layout}
@@ -22,13 +22,14 @@ use Rattle.bit_string.specs.Bits.{bits_of}
 use Rattle.bit_string.proofs.BitLaws.{length_bits}
 use Rattle.side_info.specs.SideInfo.{SideInfo, shared_asked, row_asked, field_asked, allocation_field_bits}
 use Rattle.side_info.proofs.ShareLaws.{shared_is}
-use Rattle.side_info_writer.specs.declared.FieldPlace.TheVariants as Place
-use Rattle.side_info_writer.specs.OnTheWay.{agree, held, found_by, found}
+use Rattle.side_info_writer.specs.declared.WriteError.{WriteError}
+use Rattle.side_info_writer.specs.declared.WriteError.TheVariants.{StepsDiffer, StepsNotInRow}
+use Rattle.side_info_writer.specs.OnTheWay.{question_number, agree, held, found_by, found}
 
 -- ---- as the code finds it
 
 module _ (t : BitAllocTable) (x : AllocationField) (first second : ℕ) where
-  pub unequal : agree x first second ≡ false → Place.Refused 6 ≡ found t x first second
+  pub unequal : agree x first second ≡ false → Err StepsDiffer ≡ found t x first second
   unfolding found
   unequal e = rw e
 
@@ -37,25 +38,25 @@ module _ (t : BitAllocTable) (x : AllocationField) (first second : ℕ) where
     unfolding found
     by_place o q = ap₂ found_by (sym e) (q ∙ ap (index_of t x.subband) h)
 
-    pub there : (p : ℕ) → some p ≡ index_of t x.subband n → Place.At p ≡ found t x first second
-    there p q = by_place (some p) q
+    pub there : (p : ℕ) → Some p ≡ index_of t x.subband n → Ok p ≡ found t x first second
+    there p q = by_place (Some p) q
 
-    pub missing : none ≡ index_of t x.subband n → Place.Refused 7 ≡ found t x first second
-    missing q = by_place none q
+    pub missing : None ≡ index_of t x.subband n → Err StepsNotInRow ≡ found t x first second
+    missing q = by_place None q
 
 -- ---- what a place says
 
-pub at_only : (b : Bool) (o : Option ℕ) (p : ℕ) → Place.At p ≡ found_by b o → (b ≡ true) × (o ≡ some p)
+pub at_only : (b : Bool) (o : Option ℕ) (p : ℕ) → Ok p ≡ found_by b o → (b ≡ true) × (o ≡ Some p)
 at_only false o p e = absurd (let z : ◌≡◌ {A = ℕ} 0 1 = cc in omega arith)
-at_only true none p e = absurd (let z : ◌≡◌ {A = ℕ} 0 1 = cc in omega arith)
-at_only true (some q) p e = (refl, cc)
+at_only true None p e = absurd (let z : ◌≡◌ {A = ℕ} 0 1 = cc in omega arith)
+at_only true (Some q) p e = (refl, cc)
 
 -- refused by 6 or by 7, as the first of the two says
-refused_only : (b : Bool) (o : Option ℕ) (n : ℕ) → Place.Refused n ≡ found_by b o
-    → ((rest : ℕ) → ◌≡◌ {A = ℕ} (elim b [ true ↦ elim (is_some o) [ true ↦ rest | false ↦ 7 ] | false ↦ 6 ]) n) × (eqb n 0 ≡ false)
-refused_only false o n e = let z : 6 ≡ n = cc in (λ rest. z, rw (← z))
-refused_only true none n e = let z : 7 ≡ n = cc in (λ rest. z, rw (← z))
-refused_only true (some p) n e = absurd (let z : ◌≡◌ {A = ℕ} 0 1 = cc in omega arith)
+refused_only : (b : Bool) (o : Option ℕ) (e : WriteError) → Err e ≡ found_by b o → (rest : ℕ)
+    → ◌≡◌ {A = ℕ} (elim b [ true ↦ elim (is_some o) [ true ↦ rest | false ↦ 7 ] | false ↦ 6 ]) (question_number e)
+refused_only false o e q rest = let z : e ≡ StepsDiffer = cc in rw z
+refused_only true None e q rest = let z : e ≡ StepsNotInRow = cc in rw z
+refused_only true (Some p) e q rest = absurd (let z : ◌≡◌ {A = ℕ} 0 1 = cc in omega arith)
 
 pub field_long : (l : Layout) (r : SideInfo) (x : AllocationField) → length (allocation_field_bits l r x) ≡ nbal_of l.table x.subband
 field_long l r x = length_bits (nbal_of l.table x.subband) (or_zero (index_of l.table x.subband (field_steps r.steps x)))
@@ -78,12 +79,12 @@ module _ (l : Layout) (r : SideInfo) (x : AllocationField) (channel : x.channel 
   held_is : held x first second ≡ field_steps r.steps x
   held_is = held_by r.steps x.subband x.channel channel
 
-  module _ (p : ℕ) (e : Place.At p ≡ found l.table x first second) where
-    both : (agree x first second ≡ true) × (index_of l.table x.subband (held x first second) ≡ some p)
+  module _ (p : ℕ) (e : Ok p ≡ found l.table x first second) where
+    both : (agree x first second ≡ true) × (index_of l.table x.subband (held x first second) ≡ Some p)
     unfolding found
     both = at_only (agree x first second) (index_of l.table x.subband (held x first second)) p e
 
-    index_is : index_of l.table x.subband (field_steps r.steps x) ≡ some p
+    index_is : index_of l.table x.subband (field_steps r.steps x) ≡ Some p
     index_is = ap (index_of l.table x.subband) (sym held_is) ∙ both.1
 
     pub place_small : x.subband < sblimit_of l.table → p < 2 ^ nbal_of l.table x.subband
@@ -96,17 +97,9 @@ module _ (l : Layout) (r : SideInfo) (x : AllocationField) (channel : x.channel 
     place_passes rest =
         said_yes 0 (shared_asked r x) (row_asked l r x ∷ rest) (sym agree_is ∙ both.0) ∙ said_yes 0 (row_asked l r x) rest (ap is_some index_is)
 
-  -- where it is refused, the first question that says no has the number
-  module _ (n : ℕ) (e : Place.Refused n ≡ found l.table x first second) where
-    which : ((rest : ℕ) → ◌≡◌ {A = ℕ} (elim (agree x first second)
-        [ true ↦ elim (is_some (index_of l.table x.subband (held x first second))) [ true ↦ rest | false ↦ 7 ] | false ↦ 6 ]) n) × (eqb n 0 ≡ false)
-    unfolding found
-    which = refused_only (agree x first second) (index_of l.table x.subband (held x first second)) n e
-
-    pub place_stops : (rest : List (Question ℕ)) → number (field_asked l r x ++ rest) ≡ n
-    place_stops rest =
-        ap₂ (λ (b : Bool) (m : ℕ). elim b [ true ↦ elim (is_some (index_of l.table x.subband m)) [ true ↦ number rest | false ↦ 7 ] | false ↦ 6 ]) (sym agree_is) (sym held_is)
-        ∙ which.0 (number rest)
-
-    pub place_refuses : eqb n 0 ≡ false
-    place_refuses = which.1
+  -- where it is refused, the first question that says no has the error's number
+  pub place_stops : (e : WriteError) → Err e ≡ found l.table x first second → (rest : List (Question ℕ)) → number (field_asked l r x ++ rest) ≡ question_number e
+  unfolding found
+  place_stops e q rest =
+      ap₂ (λ (b : Bool) (m : ℕ). elim b [ true ↦ elim (is_some (index_of l.table x.subband m)) [ true ↦ number rest | false ↦ 7 ] | false ↦ 6 ]) (sym agree_is) (sym held_is)
+      ∙ refused_only (agree x first second) (index_of l.table x.subband (held x first second)) e q (number rest)

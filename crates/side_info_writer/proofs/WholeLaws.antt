@@ -1,5 +1,6 @@
 -- The three parts are the whole, and each answer is the one by its number.
-use mathlib.Core.Path.{◌≡◌, refl, sym, ap, ap₂, ◌∙◌, subst}
+use Rattle.std.specs.Prelude.{Ok, Err}
+use mathlib.Core.Path.{◌≡◌, refl, sym, ap, ap₂, ◌∙◌}
 use mathlib.Core.Bool.{Bool, true, false, cond}
 use mathlib.Core.List.{List, [], ◌++◌, append_assoc, map, flat_map}
 use Prim.Native.Nat.{ℕ, ◌+◌, ◌-◌, ◌*◌, ◌≤◌}
@@ -15,70 +16,43 @@ use Rattle.layout.specs.Layout.{fields_of, sum_over}
 use Rattle.audio_data.specs.declared.ScfsiSlot.{ScfsiSlot}
 use Rattle.encoder_bit_budget.specs.declared.FixedBitBudget.{FixedBitBudget}
 use Rattle.encoder_bit_budget.specs.declared.BitAllocError.{BitAllocError}
-use Rattle.encoder_bit_budget.specs.declared.Budget.TheVariants.{Ok, Refused}
 use Rattle.encoder_bit_budget.specs.Budget.{plain, header_asked, error_number, budget_in, budget_of, layout_in}
-use Rattle.encoder_bit_budget.proofs.BudgetLaws.{allocation_small, refusing_header, apart, answer_is}
-use Rattle.bit_string.specs.Bits.{bits_of, packed, unpacked}
-use Rattle.bit_string.proofs.BitLaws.{length_bits}
+use Rattle.encoder_bit_budget.proofs.BudgetLaws.{refusing_header, apart, answer_is}
+use Rattle.bit_string.specs.Bits.{packed, unpacked}
 use Rattle.bit_string.proofs.PackLaws.{unpacked_packed}
 use Rattle.side_info.specs.SideInfo.{SideInfo, side_info, header_layout, active_slots, allocation_field_bits, scfsi_bits, scalefactor_bits, side_info_bits, field_asked, scalefactor_asked, record_asked, slot_count}
-use Rattle.side_info.proofs.CountLaws.{fields_count, slots_count, slot_most, counted, most}
+use Rattle.side_info.proofs.CountLaws.{slots_count, slot_most, counted, most}
 use Rattle.side_info.proofs.FlatLaws.{sum_most}
 use Rattle.side_info.proofs.HeaderLaws.{same_layout}
 use Rattle.side_info_writer.specs.declared.WrittenSideInfo.{WrittenSideInfo}
 use Rattle.active_slots.specs.declared.ActiveSlots.{ActiveSlots}
-use Rattle.side_info_writer.specs.declared.pen.Pen.{Pen}
-use Rattle.side_info_writer.specs.Pen.{position, Writes, Wrote, Finished}
+use Rattle.side_info_writer.specs.declared.WriteError.{WriteError}
+use Rattle.side_info_writer.specs.declared.WriteError.TheVariants.{StepsDiffer, StepsNotInRow, IndexNotInTable}
 use Rattle.side_info_writer.specs.Written.{written, where_zero, writer_asked, written_of, WrittenIs}
-use Rattle.side_info_writer.specs.OnTheWay.{Passed, Stopped, TabledAre, WrittenBehind, written_under}
+use Rattle.side_info_writer.specs.OnTheWay.{question_number, Passed, Stopped, TabledAre, written_under}
 use Rattle.active_slots.specs.Active.{listed, ActiveAre}
 
 -- ---- behind the allocation
 
--- a pen stands behind what it wrote
-stands : (p : Pen) (bytes : List ℕ) (bs : List Bool) → Writes p bytes bs → position p ≡ length bs
-stands p bytes bs s =
-    let a = ap length s.bits in
-    let b = length-append s.whole (bits_of p.count p.held) in
-    let c = length_bits p.count p.held in
-    let d = s.eights in
-    omega arith
-
-module _ (slots : List ℕ) (few : length slots ≤ 60) (scfsi : List ScfsiSlot) (scalefactors : List ℕ) where
+-- the allocation fields have 188 bits at most, and the other sections 20 for each slot
+module _ (slots : List ℕ) (few : length slots ≤ 60) (scfsi : List ScfsiSlot) (scalefactors : List ℕ) (fields : List Bool) (near : length fields ≤ 188) where
   abbrev scfsis : List Bool
   scfsis = flat_map (scfsi_bits (side_info [] scfsi [])) slots
 
   abbrev indices : List Bool
   indices = flat_map (scalefactor_bits (side_info [] scfsi scalefactors)) slots
 
-  -- 20 bits a slot at most
   both_long : length scfsis + length indices ≤ 1200
   both_long =
       let r = side_info [] scfsi scalefactors in
       let c : length scfsis + length indices ≡ sum_over (slot_count r) slots = slots_count r slots in
       omega (arith, sum_most (slot_count r) 20 (slot_most r) slots)
 
-  module _ (p : Pen) (begin : List ℕ) (near : position p ≤ 188) where
-    pub scfsi_fit : position p + length scfsis ≤ 1392
-    scfsi_fit = let b = both_long in omega arith
+  pub scfsi_fit : length fields + length scfsis ≤ 1392
+  scfsi_fit = let b = both_long in omega arith
 
-    module _ (q : Pen) (then : List ℕ) (first : Wrote p begin scfsis q then) where
-      pub indices_fit : position q + length indices ≤ 1392
-      indices_fit = let b = both_long in let c = first.moved in omega arith
-
-      module _ (e : Pen) (last : List ℕ) (second : Wrote q then indices e last) where
-        pub end_fits : position e ≤ 1388
-        end_fits = let b = both_long in let c = first.moved in let d = second.moved in omega arith
-
-        pub behind_written : (done : List ℕ) → Finished e last done
-            → WrittenBehind p begin slots scfsi scalefactors (record { number = 0; bytes = done; bits_used = position e })
-        behind_written done f = record {
-          behind = λ before w.
-              let bits = before ++ (scfsis ++ indices) in
-              let all : Writes e last bits = subst (Writes e last) (append_assoc before scfsis indices) (second.writes (before ++ scfsis) (first.writes before w)) in
-              let at_end = stands e last bits all in
-              λ i. record { number = 0; bytes = f.packs bits all i; bits_used = at_end i };
-        }
+  pub indices_fit : length (fields ++ scfsis) + length indices ≤ 1392
+  indices_fit = let b = both_long in let c = length-append fields scfsis in omega arith
 
 -- ---- the answers in a layout
 
@@ -92,42 +66,43 @@ module _ (l : Layout) (steps : List ℕ) (scfsi : List ScfsiSlot) (scalefactors 
   abbrev slot_questions : List (Question ℕ)
   slot_questions = map (scalefactor_asked r) (active_slots l steps)
 
-  under : (n : ℕ) → number (record_asked l r) ≡ n → written n (where_zero n (side_info_bits l r)) ≡ written_under l r
-  unfolding written_under
-  under n e = ap (λ (m : ℕ). written m (where_zero m (side_info_bits l r))) (sym e)
-
   decided : (n : ℕ) → number (questions ++ slot_questions) ≡ n → number (record_asked l r) ≡ n
   unfolding record_asked
   decided n e = e
 
   -- a field is refused
-  pub stopped : (w : WrittenSideInfo) (n : ℕ) → Stopped questions n → w ≡ written n [] → w ≡ written_under l r
-  stopped w n s e =
-      e ∙ ap (λ (z : Bool). written n (cond z (side_info_bits l r) [])) (sym s.refused) ∙ under n (decided n (s.decides slot_questions))
+  pub stopped : (n : ℕ) → Stopped questions n → number (record_asked l r) ≡ n
+  stopped n s = decided n (s.decides slot_questions)
 
+  -- none is
   module _ (passed : Passed questions) (a : ActiveSlots) (active : ActiveAre l steps a) where
-    answered : (v : Bool) → TabledAre (listed a) scalefactors v → number (record_asked l r) ≡ cond v 0 8
+    pub answered : (v : Bool) → TabledAre (listed a) scalefactors v → number (record_asked l r) ≡ cond v 0 8
     answered v t =
         decided (cond v 0 8)
         (passed.decides slot_questions ∙ ap (λ (xs : List ℕ). number (map (scalefactor_asked r) xs)) (sym active.whole) ∙ t.answer)
 
-    -- an index is refused
-    pub not_tabled : (w : WrittenSideInfo) → TabledAre (listed a) scalefactors false → w ≡ written 8 [] → w ≡ written_under l r
-    not_tabled w t e = e ∙ under 8 (answered false t)
-
-    -- nothing is
-    pub accepted : (p : Pen) (bytes : List ℕ) (w : WrittenSideInfo) → TabledAre (listed a) scalefactors true → Writes p bytes (flat_map (allocation_field_bits l r) (fields_of l))
-        → WrittenBehind p bytes (listed a) scfsi scalefactors w → w ≡ written_under l r
+    pub sections_are : (fields : List Bool) → fields ≡ flat_map (allocation_field_bits l r) (fields_of l)
+        → (fields ++ flat_map (scfsi_bits r) (listed a)) ++ flat_map (scalefactor_bits r) (listed a) ≡ side_info_bits l r
     unfolding side_info_bits
-    accepted p bytes w t f b =
-        let fields = flat_map (allocation_field_bits l r) (fields_of l) in
-        b.behind fields f
-        ∙ ap (λ (xs : List ℕ). written 0 (fields ++ (flat_map (scfsi_bits r) xs ++ flat_map (scalefactor_bits r) xs))) active.whole
-        ∙ under 0 (answered true t)
+    sections_are fields e =
+        append_assoc fields (flat_map (scfsi_bits r) (listed a)) (flat_map (scalefactor_bits r) (listed a))
+        ∙ ap₂ (λ (bs : List Bool) (xs : List ℕ). bs ++ (flat_map (scfsi_bits r) xs ++ flat_map (scalefactor_bits r) xs)) e active.whole
 
--- behind the allocation fields
-pub at_fields : (l : Layout) (r : SideInfo) (p : Pen) (bytes : List ℕ) → Writes p bytes (flat_map (allocation_field_bits l r) (fields_of l)) → position p ≤ 188
-at_fields l r p bytes w = omega (arith, stands p bytes _ w, fields_count l r, allocation_small l)
+  under : (n : ℕ) → number (record_asked l r) ≡ n → written n (where_zero n (side_info_bits l r)) ≡ written_under l r
+  unfolding written_under
+  under n e = ap (λ (m : ℕ). written m (where_zero m (side_info_bits l r))) (sym e)
+
+  pub accepted : (bits : List Bool) (bytes : List ℕ) (used : ℕ) → number (record_asked l r) ≡ 0 → bits ≡ side_info_bits l r → bytes ≡ packed 174 bits → used ≡ length bits
+      → record { number = 0; bytes = bytes; bits_used = used } ≡ written_under l r
+  accepted bits bytes used z e p u = (λ i. record { number = 0; bytes = p i; bits_used = u i }) ∙ ap (written 0) e ∙ under 0 z
+
+  pub not_written : (e : WriteError) (n : ℕ) (w : WrittenSideInfo) → number (record_asked l r) ≡ question_number e → n ≡ question_number e → w ≡ written n [] → w ≡ written_under l r
+  not_written e n w z s made = made ∙ ap (λ (m : ℕ). written m []) s ∙ none e ∙ under (question_number e) z
+    where
+      none : (e : WriteError) → written (question_number e) [] ≡ written (question_number e) (where_zero (question_number e) (side_info_bits l r))
+      none StepsDiffer = refl
+      none StepsNotInRow = refl
+      none IndexNotInTable = refl
 
 -- ---- the whole answer
 
@@ -140,7 +115,7 @@ module _ (h : FrameHeader) (r : SideInfo) where
   of_number n e = ap (λ (m : ℕ). written m (where_zero m bits)) (sym e)
 
   -- the header is refused
-  pub from_refused : (e : BitAllocError) (n : ℕ) (w : WrittenSideInfo) → budget_in (Refused e) ≡ budget_of (plain h 0) → n ≡ error_number e → w ≡ written n []
+  pub from_refused : (e : BitAllocError) (n : ℕ) (w : WrittenSideInfo) → budget_in (Err e) ≡ budget_of (plain h 0) → n ≡ error_number e → w ≡ written n []
       → w ≡ written_of h r
   from_refused e n w p s made =
       let z : number (header_asked h) ≡ error_number e = sym (answer_is (plain h 0)) ∙ sym (ap (λ a. a.answer) p) in

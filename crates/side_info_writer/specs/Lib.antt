@@ -1,3 +1,3 @@
 pub mod Written
-pub mod Pen
+pub mod BitWriter
 pub mod OnTheWay

@@ -1,25 +1,25 @@
 -- What the functions find on the way to the bytes.
 -- For the contracts of private functions alone: nothing that a caller has to believe stands here.
-use Rattle.std.specs.Prelude.{ℕ, ◌<◌, ◌≡◌, Bool, true, false, cond, eqb, length, get_or}
-use mathlib.Core.List.{List, [], ◌++◌, map, flat_map}
-use Rattle.std.proofs.Math.Option.{Option, none, some}
+use Rattle.std.specs.Prelude.{ℕ, ◌+◌, ◌*◌, ◌<◌, ◌≡◌, Bool, true, false, cond, eqb, length, get_or, Result, Ok, Err, Option, None, Some}
+use mathlib.Core.List.{List, [], ◌∷◌, ◌++◌, map}
 use Rattle.header.specs.Questions.{Question, number}
 use Rattle.bitalloc.specs.declared.BitAllocTable.{BitAllocTable}
 use Rattle.bitalloc.specs.Tables.{index_of}
 use Rattle.layout.specs.declared.Layout.{Layout}
 use Rattle.layout.specs.declared.AllocationField.{AllocationField}
-use Rattle.layout.specs.Layout.{fields_of}
-use Rattle.audio_data.specs.declared.ScfsiSlot.{ScfsiSlot}
+use Rattle.audio_data.specs.Scfsi.{Three, three}
 use Rattle.bit_string.specs.Bits.{bits_of, packed}
-use Rattle.side_info.specs.SideInfo.{SideInfo, side_info, allocation_field_bits, scfsi_bits, scalefactor_bits, field_asked, scalefactor_asked, record_asked, side_info_bits}
-use Rattle.side_info_writer.specs.declared.FieldPlace.{FieldPlace}
-use Rattle.side_info_writer.specs.declared.FieldPlace.TheVariants as Place
-use Rattle.side_info_writer.specs.declared.Allocated.{Allocated}
-use Rattle.side_info_writer.specs.declared.Allocated.TheVariants as Outcome
+use Rattle.side_info.specs.SideInfo.{SideInfo, side_info, scalefactor_asked, record_asked, side_info_bits}
+use Rattle.side_info_writer.specs.declared.WriteError.{WriteError}
+use Rattle.side_info_writer.specs.declared.WriteError.TheVariants.{StepsDiffer, StepsNotInRow, IndexNotInTable}
 use Rattle.side_info_writer.specs.declared.WrittenSideInfo.{WrittenSideInfo}
-use Rattle.side_info_writer.specs.declared.pen.Pen.{Pen}
-use Rattle.side_info_writer.specs.Pen.{Writes, Wrote}
 use Rattle.side_info_writer.specs.Written.{written, where_zero}
+
+-- the number of the question that an error says no to
+abbrev pub question_number : WriteError → ℕ
+question_number StepsDiffer = 6
+question_number StepsNotInRow = 7
+question_number IndexNotInTable = 8
 
 -- ---- a field, from the steps of its subband in either channel
 
@@ -29,12 +29,12 @@ agree x first second = cond x.both (eqb second first) true
 abbrev pub held : AllocationField → ℕ → ℕ → ℕ
 held x first second = cond (eqb x.channel 0) first second
 
-abbrev pub found_by : Bool → Option ℕ → FieldPlace
-found_by false o = Place.Refused 6
-found_by true none = Place.Refused 7
-found_by true (some p) = Place.At p
+abbrev pub found_by : Bool → Option ℕ → Result ℕ WriteError
+found_by false o = Err StepsDiffer
+found_by true None = Err StepsNotInRow
+found_by true (Some p) = Ok p
 
-unfoldable pub found : BitAllocTable → AllocationField → ℕ → ℕ → FieldPlace
+unfoldable pub found : BitAllocTable → AllocationField → ℕ → ℕ → Result ℕ WriteError
 found t x first second = found_by (agree x first second) (index_of t x.subband (held x first second))
 
 -- ---- questions
@@ -46,19 +46,19 @@ pub record Passed (qs : List (Question ℕ)) : Type 0 where
 -- one is answered no, by the number
 pub record Stopped (qs : List (Question ℕ)) (n : ℕ) : Type 0 where
   pub decides : (rest : List (Question ℕ)) → number (qs ++ rest) ≡ n
-  pub refused : eqb n 0 ≡ false
 
 -- the record as far as its fields are asked
 abbrev pub steps_alone : List ℕ → SideInfo
 steps_alone steps = side_info steps [] []
 
-abbrev pub AllocatedIs : Layout → List ℕ → List ℕ → List ℕ → Allocated → Type 0
-AllocatedIs l steps old new (Outcome.Done p) =
-    Passed (flat_map (field_asked l (steps_alone steps)) (fields_of l))
-    × Wrote (record { at = 0; held = 0; count = 0 }) old (flat_map (allocation_field_bits l (steps_alone steps)) (fields_of l)) p new
-AllocatedIs l steps old new (Outcome.Refused n) = Stopped (flat_map (field_asked l (steps_alone steps)) (fields_of l)) n
-
 -- ---- the indices
+
+-- those of a slot, one for each granule
+abbrev pub granules : List ℕ → ℕ → List ℕ
+granules indices slot = get_or indices (3 * slot) 0 ∷ get_or indices (3 * slot + 1) 0 ∷ get_or indices (3 * slot + 2) 0 ∷ []
+
+abbrev pub three_in : List ℕ → Three
+three_in indices = three (get_or indices 0 0) (get_or indices 1 0) (get_or indices 2 0)
 
 -- question 8 is answered yes of every slot
 pub record EachTabled (slots scalefactors : List ℕ) : Type 0 where
@@ -73,11 +73,6 @@ abbrev pub where_sent : Bool → ℕ → List Bool
 where_sent b i = cond b (bits_of 6 i) []
 
 -- ---- the answer
-
--- the scfsi and scalefactors of slots behind what a pen has written
-pub record WrittenBehind (p : Pen) (bytes slots : List ℕ) (scfsi : List ScfsiSlot) (scalefactors : List ℕ) (w : WrittenSideInfo) : Type 0 where
-  pub behind : (before : List Bool) → Writes p bytes before
-      → w ≡ written 0 (before ++ (flat_map (scfsi_bits (side_info [] scfsi [])) slots ++ flat_map (scalefactor_bits (side_info [] scfsi scalefactors)) slots))
 
 -- the answer in the layout of an accepted header
 unfoldable pub written_under : Layout → SideInfo → WrittenSideInfo

@@ -1,26 +1,26 @@
 // The writer of a frame's side information (ISO/IEC 11172-3 2.4.1.6): its allocation fields, scfsi and scalefactors as bits.
 #![tactic(auto)]
 
-ghost use Rattle.std.specs.Prelude.{◌≡◌, true, ◌+◌, ◌≤◌, length};
+ghost use Rattle.std.specs.Prelude.{◌≡◌, true, ◌+◌, ◌≤◌, ◌<◌, ◌++◌, length, MatchResult, OnOk};
 ghost use mathlib.Core.List.{[], flat_map};
 ghost use Rattle.active_slots.specs.Active.{SlotsIn, listed};
-ghost use Rattle.audio_data.specs.Scfsi.{three, sent};
-ghost use Rattle.bit_string.specs.Bits.{bits_of, packed};
-ghost use Rattle.side_info.specs.SideInfo.{side_info, tabled, scfsi_bits, scalefactor_bits};
+ghost use Rattle.audio_data.specs.Scfsi.{sent};
+ghost use Rattle.bit_string.specs.Bits.{bits_of};
+ghost use Rattle.layout.specs.Layout.{fields_of};
+ghost use Rattle.side_info.specs.SideInfo.{side_info, tabled, allocation_field_bits, scfsi_bits, scalefactor_bits, side_info_bits, field_asked, record_asked};
+ghost use Rattle.header.specs.Questions.{number};
 ghost use Rattle.side_info_writer.specs.Written.{written, WrittenIs};
-ghost use Rattle.side_info_writer.specs.Pen.{Steady, position, Wrote};
-ghost use Rattle.side_info_writer.specs.OnTheWay.{agree, held, found, AllocatedIs, TabledAre, EachTabled, where_sent, WrittenBehind, written_under};
+ghost use Rattle.side_info_writer.specs.OnTheWay.{question_number, agree, held, found, Passed, Stopped, steps_alone, granules, three_in, TabledAre, EachTabled, where_sent, written_under};
 
 use active_slots::ActiveSlots;
 use audio_data::{Scfsi, ScfsiSlot};
-use bitalloc::{BitAllocTable, OptionU32};
-use encoder_bit_budget::Budget;
+use bitalloc::BitAllocTable;
 use header::FrameHeader;
 use layout::{AllocationField, Layout};
 
-mod pen;
+mod bit_writer;
 
-use pen::Pen;
+use bit_writer::BitWriter;
 
 // The bytes that hold the longest side information, 1388 bits.
 pub const SIDE_INFO_BYTES: usize = 174;
@@ -34,18 +34,28 @@ pub struct WrittenSideInfo {
     pub bits_used: u32,
 }
 
-// The place of a field's steps in its row, or the number of the question that they are refused by.
-#[derive(Clone, Copy)]
-enum FieldPlace {
-    At(u32),
-    Refused(u32),
+// Why a record is not written.
+#[derive(Clone, Copy, PartialEq, Eq)]
+enum WriteError {
+    // The channels that a field serves have different steps.
+    StepsDiffer,
+    // The row of a field's subband does not have its steps.
+    StepsNotInRow,
+    // Table 3-B.1 does not have an index of an active slot.
+    IndexNotInTable,
 }
 
-// The pen behind the allocation fields, or the number of the question that one of them is refused by.
-#[derive(Clone, Copy)]
-enum Allocated {
-    Done(Pen),
-    Refused(u32),
+impl WriteError {
+    // The number of the question that says no.
+    fn number(self) -> u32
+        ensures { result ≡ question_number self }
+    {
+        match self {
+            WriteError::StepsDiffer => 6,
+            WriteError::StepsNotInRow => 7,
+            WriteError::IndexNotInTable => 8,
+        }
+    }
 }
 
 // The steps and scfsi by slot and the scalefactor indices, at 3 * slot + granule, as the bits of a header's frame. Slots that the header's layout does
@@ -60,31 +70,23 @@ pub fn write_side_info(
 {
     let budget = encoder_bit_budget::fixed_bit_budget(header);
     match budget {
-        Budget::Ok(b) => write_under(b.layout(), nb_steps, scfsi, scalefactor),
-        Budget::Refused(error) => refused(error.number()),
+        Ok(b) => write_under(b.layout(), nb_steps, scfsi, scalefactor),
+        Err(error) => refused(error.number()),
     }
-}
-
-// No bits yet.
-fn blank() -> [u8; SIDE_INFO_BYTES]
-    ensures { result ≡ packed 174 [] }
-{
-    [0; SIDE_INFO_BYTES]
 }
 
 // The answer of a refusal: its number, 174 zeros, no bits.
 pub fn refused(number: u32) -> WrittenSideInfo
     ensures { result ≡ written number [] }
 {
-    let bytes = blank();
     WrittenSideInfo {
         number,
-        bytes,
+        bytes: [0; SIDE_INFO_BYTES],
         bits_used: 0,
     }
 }
 
-// The answer in the layout of an accepted header: the fields are asked as they are written, then the indices.
+// The answer in the layout of an accepted header.
 fn write_under(
     layout: Layout,
     nb_steps: [u32; 64],
@@ -93,19 +95,37 @@ fn write_under(
 ) -> WrittenSideInfo
     ensures { result ≡ written_under layout (side_info nb_steps scfsi scalefactor) }
 {
-    let mut bytes = blank();
-    let fields = write_allocation(layout, nb_steps, &mut bytes);
-    match fields {
-        Allocated::Done(pen) => {
-            let active = active_slots::active_slots(layout, nb_steps);
-            if indices_tabled(active, scalefactor) {
-                write_slots(active, scfsi, scalefactor, pen, bytes)
-            } else {
-                refused(8)
-            }
-        }
-        Allocated::Refused(number) => refused(number),
+    let mut writer = BitWriter::new();
+    match write_sections(layout, nb_steps, scfsi, scalefactor, &mut writer) {
+        Ok(()) => WrittenSideInfo {
+            number: 0,
+            bytes: writer.bytes(),
+            bits_used: writer.bits_used(),
+        },
+        Err(error) => refused(error.number()),
     }
+}
+
+// The allocation fields, scfsi and scalefactors: the fields are asked as they are written, then the indices.
+fn write_sections(
+    layout: Layout,
+    nb_steps: [u32; 64],
+    scfsi: [ScfsiSlot; 64],
+    scalefactor: [u8; 192],
+    writer: &mut BitWriter,
+) -> Result<(), WriteError>
+    requires { writer.old ≡ [] }
+    ensures asked { MatchResult result (λ _. number (record_asked layout (side_info nb_steps scfsi scalefactor)) ≡ 0) (λ e. number (record_asked layout (side_info nb_steps scfsi scalefactor)) ≡ question_number e) }
+    ensures written { OnOk result (writer.new ≡ side_info_bits layout (side_info nb_steps scfsi scalefactor)) }
+{
+    write_allocation(layout, nb_steps, writer)?;
+    let active = active_slots::active_slots(layout, nb_steps);
+    if !indices_tabled(active, scalefactor) {
+        return Err(WriteError::IndexNotInTable);
+    }
+    write_scfsi(active, scfsi, writer);
+    write_scalefactors(active, scfsi, scalefactor, writer);
+    Ok(())
 }
 
 // Whether the channels that a field serves have the same steps, from those of its subband in either channel.
@@ -123,51 +143,60 @@ fn held(field: AllocationField, first: u32, second: u32) -> u32
 }
 
 // The place of the steps in the field's row.
-fn field_place(table: BitAllocTable, field: AllocationField, first: u32, second: u32) -> FieldPlace
+fn field_place(
+    table: BitAllocTable,
+    field: AllocationField,
+    first: u32,
+    second: u32,
+) -> Result<u32, WriteError>
     ensures { result ≡ found table field first second }
 {
     if agree(field, first, second) {
         let nb_steps = held(field, first, second);
         let place = table.allocation_index(field.subband, nb_steps);
         match place {
-            OptionU32::Some(index) => FieldPlace::At(index),
-            OptionU32::None => FieldPlace::Refused(7),
+            Some(index) => Ok(index),
+            None => Err(WriteError::StepsNotInRow),
         }
     } else {
-        FieldPlace::Refused(6)
+        Err(WriteError::StepsDiffer)
     }
 }
 
 // The allocation fields, field by field.
-fn write_allocation(layout: Layout, nb_steps: [u32; 64], bytes: &mut [u8; 174]) -> Allocated
-    ensures { AllocatedIs layout nb_steps bytes.old bytes.new result }
+fn write_allocation(
+    layout: Layout,
+    nb_steps: [u32; 64],
+    writer: &mut BitWriter,
+) -> Result<(), WriteError>
+    requires { writer.old ≡ [] }
+    ensures asked { MatchResult result (λ _. Passed (flat_map (field_asked layout (steps_alone nb_steps)) (fields_of layout))) (λ e. Stopped (flat_map (field_asked layout (steps_alone nb_steps)) (fields_of layout)) (question_number e)) }
+    ensures written { OnOk result (writer.new ≡ flat_map (allocation_field_bits layout (steps_alone nb_steps)) (fields_of layout)) }
 {
     let table = layout.table;
-    let fields = layout.fields();
-    let mut pen = pen::new();
-    let mut f: usize = 0;
-    while f < fields {
+    for f in 0..layout.fields() {
         let field = layout.field(f);
         let sb = field.subband;
-        let place = field_place(table, field, nb_steps[sb], nb_steps[32 + sb]);
-        match place {
-            FieldPlace::At(index) => {
-                pen = pen::put(pen, index, table.nbal(sb), bytes);
-            }
-            FieldPlace::Refused(number) => {
-                return Allocated::Refused(number);
-            }
-        }
-        f = f + 1;
+        let place = field_place(table, field, nb_steps[sb], nb_steps[32 + sb])?;
+        writer.put(place, table.nbal(sb));
     }
-    Allocated::Done(pen)
+    Ok(())
+}
+
+// The scalefactor indices of a slot, one for each granule.
+fn granules(scalefactor: &[u8], slot: usize) -> [u8; 3]
+    requires { (slot < 64) × (length scalefactor.now ≡ 192) }
+    ensures { result ≡ granules scalefactor.now slot }
+{
+    let at = 3 * slot;
+    [scalefactor[at], scalefactor[at + 1], scalefactor[at + 2]]
 }
 
 // Whether Table 3-B.1 has the three indices of a slot.
-fn slot_tabled(a: u8, b: u8, c: u8) -> bool
-    ensures { result ≡ tabled (three a b c) }
+fn slot_tabled(indices: [u8; 3]) -> bool
+    ensures { result ≡ tabled (three_in indices) }
 {
-    (a <= 62) & (b <= 62) & (c <= 62)
+    (indices[0] <= 62) & (indices[1] <= 62) & (indices[2] <= 62)
 }
 
 // Whether it has those of every active slot.
@@ -175,64 +204,45 @@ fn indices_tabled(active: ActiveSlots, scalefactor: [u8; 192]) -> bool
     requires { SlotsIn active }
     ensures { TabledAre (listed active) scalefactor result }
 {
-    let slots = active.slots;
-    let count = active.count;
-    let mut k: usize = 0;
-    while k < count {
-        let at = 3 * (slots[k] as usize);
-        if !slot_tabled(scalefactor[at], scalefactor[at + 1], scalefactor[at + 2]) {
+    for slot in &active.slots[..active.count] {
+        if !slot_tabled(granules(&scalefactor, usize::from(*slot))) {
             return false;
         }
-        k = k + 1;
     }
     true
 }
 
 // The scfsi of the active slots, two bits each.
-fn write_scfsi(
-    active: ActiveSlots,
-    scfsi: [ScfsiSlot; 64],
-    start: Pen,
-    bytes: &mut [u8; 174],
-) -> Pen
-    requires { SlotsIn active × Steady start × (position start + length (flat_map (scfsi_bits (side_info [] scfsi [])) (listed active)) ≤ 1392) }
-    ensures { Wrote start bytes.old (flat_map (scfsi_bits (side_info [] scfsi [])) (listed active)) result bytes.new }
+fn write_scfsi(active: ActiveSlots, scfsi: [ScfsiSlot; 64], writer: &mut BitWriter)
+    requires { SlotsIn active × (length writer.old + length (flat_map (scfsi_bits (side_info [] scfsi [])) (listed active)) ≤ 1392) }
+    ensures { writer.new ≡ writer.old ++ flat_map (scfsi_bits (side_info [] scfsi [])) (listed active) }
 {
-    let slots = active.slots;
-    let count = active.count;
-    let mut pen = start;
-    let mut k: usize = 0;
-    while k < count {
-        let slot = slots[k] as usize;
-        let at_slot = scfsi[slot];
+    for slot in &active.slots[..active.count] {
+        let at_slot = scfsi[usize::from(*slot)];
         let chosen = at_slot.scfsi;
-        pen = pen::put(pen, chosen.code() as u32, 2, bytes);
-        k = k + 1;
+        writer.put(u32::from(chosen.code()), 2);
     }
-    pen
 }
 
 // The six bits of an index, where it is sent.
-fn put_index(pen: Pen, sent: bool, index: u8, bytes: &mut [u8; 174]) -> Pen
-    requires { Steady pen × (index ≤ 62) × (position pen + length (where_sent sent index) ≤ 1392) }
-    ensures { Wrote pen bytes.old (where_sent sent index) result bytes.new }
+fn put_index(writer: &mut BitWriter, sent: bool, index: u8)
+    requires { (index ≤ 62) × (length writer.old + length (where_sent sent index) ≤ 1392) }
+    ensures { writer.new ≡ writer.old ++ where_sent sent index }
 {
     if sent {
-        pen::put(pen, index as u32, 6, bytes)
-    } else {
-        pen
+        writer.put(u32::from(index), 6);
     }
 }
 
 // The indices that a scfsi sends: the first, the second where there are three, and the third where there is more than one.
-fn put_sent(pen: Pen, scfsi: Scfsi, a: u8, b: u8, c: u8, bytes: &mut [u8; 174]) -> Pen
-    requires { Steady pen × (tabled (three a b c) ≡ true) × (position pen + length (flat_map (bits_of 6) (sent scfsi (three a b c))) ≤ 1392) }
-    ensures { Wrote pen bytes.old (flat_map (bits_of 6) (sent scfsi (three a b c))) result bytes.new }
+fn put_sent(writer: &mut BitWriter, scfsi: Scfsi, indices: [u8; 3])
+    requires { (tabled (three_in indices) ≡ true) × (length writer.old + length (flat_map (bits_of 6) (sent scfsi (three_in indices))) ≤ 1392) }
+    ensures { writer.new ≡ writer.old ++ flat_map (bits_of 6) (sent scfsi (three_in indices)) }
 {
     let parts = scfsi.parts_on_wire();
-    let first = put_index(pen, true, a, bytes);
-    let second = put_index(first, parts == 3, b, bytes);
-    put_index(second, 1 < parts, c, bytes)
+    put_index(writer, true, indices[0]);
+    put_index(writer, parts == 3, indices[1]);
+    put_index(writer, 1 < parts, indices[2]);
 }
 
 // The scalefactors of the active slots.
@@ -240,52 +250,14 @@ fn write_scalefactors(
     active: ActiveSlots,
     scfsi: [ScfsiSlot; 64],
     scalefactor: [u8; 192],
-    start: Pen,
-    bytes: &mut [u8; 174],
-) -> Pen
-    requires { SlotsIn active × Steady start × EachTabled (listed active) scalefactor × (position start + length (flat_map (scalefactor_bits (side_info [] scfsi scalefactor)) (listed active)) ≤ 1392) }
-    ensures { Wrote start bytes.old (flat_map (scalefactor_bits (side_info [] scfsi scalefactor)) (listed active)) result bytes.new }
+    writer: &mut BitWriter,
+)
+    requires { SlotsIn active × EachTabled (listed active) scalefactor × (length writer.old + length (flat_map (scalefactor_bits (side_info [] scfsi scalefactor)) (listed active)) ≤ 1392) }
+    ensures { writer.new ≡ writer.old ++ flat_map (scalefactor_bits (side_info [] scfsi scalefactor)) (listed active) }
 {
-    let slots = active.slots;
-    let count = active.count;
-    let mut pen = start;
-    let mut k: usize = 0;
-    while k < count {
-        let slot = slots[k] as usize;
-        let at = 3 * slot;
+    for slot in &active.slots[..active.count] {
+        let slot = usize::from(*slot);
         let at_slot = scfsi[slot];
-        let chosen = at_slot.scfsi;
-        pen = put_sent(
-            pen,
-            chosen,
-            scalefactor[at],
-            scalefactor[at + 1],
-            scalefactor[at + 2],
-            bytes,
-        );
-        k = k + 1;
-    }
-    pen
-}
-
-// Scfsi and scalefactors behind the allocation.
-fn write_slots(
-    active: ActiveSlots,
-    scfsi: [ScfsiSlot; 64],
-    scalefactor: [u8; 192],
-    start: Pen,
-    allocation: [u8; 174],
-) -> WrittenSideInfo
-    requires { SlotsIn active × EachTabled (listed active) scalefactor × Steady start × (position start ≤ 188) }
-    ensures { WrittenBehind start allocation (listed active) scfsi scalefactor result }
-{
-    let mut bytes = allocation;
-    let scfsi_end = write_scfsi(active, scfsi, start, &mut bytes);
-    let end = write_scalefactors(active, scfsi, scalefactor, scfsi_end, &mut bytes);
-    pen::finish(end, &mut bytes);
-    WrittenSideInfo {
-        number: 0,
-        bytes,
-        bits_used: 8 * (end.at as u32) + end.count,
+        put_sent(writer, at_slot.scfsi, granules(&scalefactor, slot));
     }
 }

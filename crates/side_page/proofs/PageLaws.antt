@@ -19,7 +19,7 @@ use Rattle.active_slots.specs.Active.{listed, SlotsIn, ActiveAre}
 use Rattle.active_slots.proofs.ActiveLaws.{listed_long, listed_at, listed_here, listed_over}
 use Rattle.side_info_reading.specs.declared.ReadSideInfo.{ReadSideInfo}
 use Rattle.side_info_reading.specs.Read.{record_in}
-use Rattle.text_line.specs.declared.Line.{Line}
+use Rattle.text_line.specs.declared.line.Text.{Text}
 use Rattle.text_line.specs.Line.{text_of}
 use Rattle.text_line.specs.Page.{LineIs}
 use Rattle.side_page.specs.Page.{head_of, row_of, foot_of, accepted_page, refused_line, page_by, side_page}
@@ -91,7 +91,7 @@ module _ (free : Bool) (b : FixedBitBudget) (a : ActiveSlots) (in-slots : SlotsI
 
 module _ (h : FrameHeader) (given : ℕ) (r : ReadSideInfo) where
   pub line_accepted : (b : FixedBitBudget) → b ≡ (budget_of (plain h 0)).budget → r.number ≡ 0 → (free : Bool) → free ≡ free_format h
-      → (l : Layout) → l ≡ layout_in b → (a : ActiveSlots) → ActiveAre l r.nb_steps a → (n : ℕ) (line : Line)
+      → (l : Layout) → l ≡ layout_in b → (a : ActiveSlots) → ActiveAre l r.nb_steps a → (n : ℕ) (line : Text 256)
       → text_of line ≡ get_or (accepted_page free b (listed a) (record_in r) r.bits_used) n []
       → LineIs (side_page h given r) n (record { there = ltb n (a.count + 5); line = line })
   unfolding side_page page_by

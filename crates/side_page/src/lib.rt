@@ -13,6 +13,7 @@ ghost use Rattle.side_page.specs.Page.{first_line, head_of, row_of, foot_of, acc
 use active_slots::ActiveSlots;
 use encoder_bit_budget::{FixedBitBudget, Request};
 use header::FrameHeader;
+use plan_lines::Label;
 use side_info_reading::ReadSideInfo;
 use text_line::{Line, PageLine, only};
 
@@ -22,8 +23,7 @@ pub fn page_line(header: FrameHeader, given: u64, read: ReadSideInfo, n: usize) 
 {
     if read.number == 0 {
         let b = plan_lines::budget_held(Request { header, banc: 0 });
-        let nb_steps = read.nb_steps;
-        let active = active_slots::active_slots(b.layout(), nb_steps);
+        let active = active_slots::active_slots(b.layout(), read.nb_steps);
         let there = n < active.count + 5;
         let line = accepted_line(header.is_free_format(), b, active, read, n);
         PageLine { there, line }
@@ -47,8 +47,7 @@ fn accepted_line(
     if n < 3 {
         head_line(free, b, n)
     } else if n - 3 < count {
-        let slots = active.slots;
-        row_line(slots[n - 3] as usize, read)
+        row_line(active.slots[n - 3] as usize, read)
     } else {
         foot_line(read.bits_used as u64, n - 3 - count)
     }
@@ -58,12 +57,10 @@ fn accepted_line(
 fn head_line(free: bool, b: FixedBitBudget, n: usize) -> Line
     ensures { text_of result ≡ get_or (head_of free b) n [] }
 {
-    if n == 0 {
-        first_line(free, b)
-    } else if n == 2 {
-        side_rows::heading()
-    } else {
-        Line::new()
+    match n {
+        0 => first_line(free, b),
+        2 => side_rows::heading(),
+        _ => Line::new(),
     }
 }
 
@@ -82,18 +79,12 @@ fn row_line(slot: usize, read: ReadSideInfo) -> Line
     requires { slot < 64 }
     ensures { text_of result ≡ row_of (record_in read) slot }
 {
-    let nb_steps = read.nb_steps;
-    let scfsi = read.scfsi;
     let index = read.scalefactor;
-    let at_slot = scfsi[slot];
-    let sharing = at_slot.scfsi;
     side_rows::row_line(
         slot,
-        nb_steps[slot],
-        sharing.code(),
-        index[3 * slot],
-        index[3 * slot + 1],
-        index[3 * slot + 2],
+        read.nb_steps[slot],
+        read.scfsi[slot].scfsi.code(),
+        [index[3 * slot], index[3 * slot + 1], index[3 * slot + 2]],
     )
 }
 
@@ -101,9 +92,8 @@ fn row_line(slot: usize, read: ReadSideInfo) -> Line
 fn foot_line(bits: u64, n: usize) -> Line
     ensures { text_of result ≡ get_or (foot_of bits) n [] }
 {
-    if n == 1 {
-        plan_lines::used_line(bits)
-    } else {
-        Line::new()
+    match n {
+        1 => plan_lines::bits_line(Label::Used, bits),
+        _ => Line::new(),
     }
 }

@@ -4,6 +4,7 @@ ghost use Rattle.text_line.specs.Line.{text_of};
 ghost use Rattle.side_page.specs.Page.{cut_short_text, reserved_text, refused_line};
 
 use header::FrameHeader;
+use plan_lines::Refusal;
 use text_line::Line;
 
 pub fn refused_line(header: FrameHeader, number: u32, given: u64) -> Line
@@ -12,19 +13,27 @@ pub fn refused_line(header: FrameHeader, number: u32, given: u64) -> Line
     match number {
         9 => cut_short(given),
         10 => reserved(),
-        _ => plan_lines::refusal_line(header, number, 0, 0, 0),
+        _ => plan_lines::refusal_line(
+            header,
+            Refusal {
+                number,
+                cb: 0,
+                fixed: 0,
+                banc: 0,
+            },
+        ),
     }
 }
 
 fn cut_short(given: u64) -> Line
     ensures { text_of result ≡ cut_short_text given }
 {
-    let line = Line::new()
+    Line::new()
         .text(b"refused 9: the side information goes on behind the ")
-        .number(given);
-    line.text(
-        b" bytes given: paste the frame's bytes in hexadecimal from its first allocation bit on, to its end, and check the header's words.",
-    )
+        .number(given)
+        .text(
+            b" bytes given: paste the frame's bytes in hexadecimal from its first allocation bit on, to its end, and check the header's words.",
+        )
 }
 
 fn reserved() -> Line

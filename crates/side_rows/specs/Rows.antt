@@ -3,10 +3,14 @@
 use Rattle.std.specs.Prelude.{ℕ, zero, suc, ◌+◌, ◌/◌, ◌%◌, List, [], ◌∷◌, ◌++◌, get_or, take, drop}
 use Rattle.tables.specs.Scalefactors.{printed}
 use Rattle.layout.specs.Slots.{channel_in, subband_in}
-use Rattle.audio_data.specs.Scfsi.{Three}
+use Rattle.audio_data.specs.Scfsi.{Three, three}
 use Rattle.plan_text.specs.Quoted.{text}
 use Rattle.text_line.specs.Line.{aligned}
 use Rattle.text_line.specs.Number.{number_text}
+
+-- three indices in a row
+abbrev pub three_in : List ℕ → Three
+three_in xs = three (get_or xs 0 0) (get_or xs 1 0) (get_or xs 2 0)
 
 -- the last k decimal digits of a number, the most significant first
 unfoldable pub last_digits : ℕ → ℕ → List ℕ

@@ -3,9 +3,8 @@
 
 ghost use Rattle.std.specs.Prelude.{◌≡◌, ◌++◌, get_or};
 ghost use Rattle.tables.specs.Scalefactors.{printed};
-ghost use Rattle.audio_data.specs.Scfsi.{three};
 ghost use Rattle.text_line.specs.Line.{text_of, cut};
-ghost use Rattle.side_rows.specs.Rows.{heading_line, row_start, indices_text, multiplier_column, row_line};
+ghost use Rattle.side_rows.specs.Rows.{three_in, heading_line, row_start, indices_text, multiplier_column, row_line};
 ghost use Rattle.side_rows.specs.Printed.{Spelled};
 
 use text_line::Line;
@@ -17,27 +16,28 @@ pub fn heading() -> Line
 }
 
 // The row of a slot, from its steps, the code of its scfsi and the scalefactor indices of its granules.
-pub fn row_line(slot: usize, nb_steps: u32, code: u8, first: u8, second: u8, third: u8) -> Line
-    ensures { text_of result ≡ row_line slot nb_steps code (three first second third) }
+pub fn row_line(slot: usize, nb_steps: u32, code: u8, index: [u8; 3]) -> Line
+    ensures { text_of result ≡ row_line slot nb_steps code (three_in index) }
 {
-    let line = indices(row_start(slot, nb_steps, code), first, second, third);
+    let line = indices(row_start(slot, nb_steps, code), index);
+    let [first, second, third] = index;
     multiplier(multiplier(multiplier(line, first), second), third)
 }
 
 fn row_start(slot: usize, nb_steps: u32, code: u8) -> Line
     ensures { text_of result ≡ cut (row_start slot nb_steps code) }
 {
-    let place = Line::new()
+    Line::new()
         .number_in(7, (slot % 32) as u64)
-        .number_in(9, (slot / 32) as u64);
-    place
+        .number_in(9, (slot / 32) as u64)
         .number_in(7, nb_steps as u64)
         .number_in(7, code as u64)
 }
 
-fn indices(line: Line, first: u8, second: u8, third: u8) -> Line
-    ensures { text_of result ≡ cut (text_of line ++ indices_text (three first second third)) }
+fn indices(line: Line, index: [u8; 3]) -> Line
+    ensures { text_of result ≡ cut (text_of line ++ indices_text (three_in index)) }
 {
+    let [first, second, third] = index;
     line.number_in(6, first as u64)
         .number_in(4, second as u64)
         .number_in(4, third as u64)
@@ -60,11 +60,9 @@ fn spelled(n: u64) -> [u8; 15]
 {
     let mut digits = [0u8; 15];
     let mut rest = n;
-    let mut i: usize = 15;
-    while 0 < i {
-        i = i - 1;
-        digits[i] = 48 + ((rest % 10) as u8);
-        rest = rest / 10;
+    for i in (0..15).rev() {
+        digits[i] = b'0' + (rest % 10) as u8;
+        rest /= 10;
     }
     digits
 }
@@ -74,7 +72,7 @@ fn printed_at(index: u8) -> u64
     ensures { result ≡ get_or printed index 0 }
 {
     let table = printed();
-    if index < 63 { table[index as usize] } else { 0 }
+    table.get(usize::from(index)).copied().unwrap_or(0)
 }
 
 // The multipliers of Table 3-B.1, in units of 10^-14. The underscore stands where the standard prints the decimal comma.

@@ -4,11 +4,10 @@
 mod notes;
 
 ghost use Rattle.text_line.specs.Page.{LineIs};
-ghost use Rattle.side_show.specs.Side.{with_bytes, with_input, with_words, side_of};
+ghost use Rattle.side_show.specs.Side.{with_bytes, with_input, side_of};
 
 use header::FrameHeader;
-use hex_text::HexAnswer;
-use plan_words::Words;
+use hex_text::HexError;
 use text_line::{PageLine, only};
 
 // The line of a number, counted from 0. The words are each ended by a byte 0.
@@ -18,20 +17,9 @@ pub fn side_line(words: &[u8], input: &[u8], n: usize) -> PageLine
     if 4096 <= words.len() {
         return only(word_notes::long_words(), n);
     }
-    let read = plan_words::read_words(words);
-    with_words(words, read, input, n)
-}
-
-// With words: what the input gives, or the line that says what is wrong with the words.
-fn with_words(words: &[u8], read: Words, input: &[u8], n: usize) -> PageLine
-    ensures { LineIs (with_words words.now read input.now) n result }
-{
-    let answer = read.answer;
-    if word_notes::accepted(answer) {
-        let header = read.header;
-        with_input(header, input, n)
-    } else {
-        only(word_notes::words_line(words, read), n)
+    match plan_words::read_words(words) {
+        Ok(read) => with_input(read.header, input, n),
+        Err(error) => only(word_notes::words_line(words, error), n),
     }
 }
 
@@ -43,15 +31,12 @@ fn with_input(header: FrameHeader, input: &[u8], n: usize) -> PageLine
         return only(word_notes::long_input(), n);
     }
     let mut bytes = [0u8; 65_536];
-    let read = hex_text::read_hex(input, &mut bytes);
-    let answer = read.answer;
-    match answer {
-        HexAnswer::Accepted => {
-            let count = read.count;
-            with_bytes(header, &bytes[..count], n)
+    match hex_text::read_hex(input, &mut bytes) {
+        Ok(count) => with_bytes(header, &bytes[..count], n),
+        Err(HexError::WrongCharacter { line, column }) => {
+            only(notes::wrong_character(line, column), n)
         }
-        HexAnswer::WrongCharacter => only(notes::wrong_character(read.line, read.column), n),
-        HexAnswer::OddDigits => only(notes::odd_digits(read.line), n),
+        Err(HexError::OddDigits { line }) => only(notes::odd_digits(line), n),
     }
 }
 

@@ -1,9 +1,9 @@
 -- What the code's matches on sample rate and bit rate find is what the headings have.
+use Rattle.std.specs.Prelude.{Option, None, Some, option_map}
 use mathlib.Core.Path.{◌≡◌, refl, sym, ap, subst}
 use mathlib.Core.Bool.{Bool, true, false, not, ◌&&◌, ◌||◌, and-false}
 use mathlib.Core.List.{List, [], ◌∷◌, ◌++◌}
 use mathlib.Core.Logic.{⊎_elim}
-use mathlib.Core.Option.{Option, none, some, map}
 use Prim.Native.Nat.{ℕ}
 use lib.Dec.{T, eqb}
 use types.Run.{OneOf}
@@ -30,15 +30,15 @@ high = 96 ∷ 112 ∷ 128 ∷ 160 ∷ 192 ∷ []
 
 -- an arm's table is the headings' at each of its keys
 pub arm : (t : BitAllocTable) (frequency f : ℕ) (ks : List ℕ) (n : ℕ) → f ≡ frequency
-    → Each (λ k. some t ≡ table_at frequency (kbps (some k))) ks → OneOf ks n → some t ≡ table_at f (kbps (some n))
-arm t frequency f ks n e each h = rw e (at_key (λ k. some t ≡ table_at frequency (kbps (some k))) ks n each h)
+    → Each (λ k. Some t ≡ table_at frequency (kbps (Some k))) ks → OneOf ks n → Some t ≡ table_at f (kbps (Some n))
+arm t frequency f ks n e each h = rw e (at_key (λ k. Some t ≡ table_at frequency (kbps (Some k))) ks n each h)
 
 -- no heading passes: no table
 no_table : (frequency : ℕ) (rate : Rate) (p : Heading → Bool) → T (all p headings)
-    → ((g : Heading) → T (p g) → (eqb frequency g.frequency && has g rate) ≡ false) → table_at frequency rate ≡ none
+    → ((g : Heading) → T (p g) → (eqb frequency g.frequency && has g rate) ≡ false) → table_at frequency rate ≡ None
 unfolding table_at
 no_table frequency rate p t b =
-    ap (λ o. map (λ g. g.table) (entry_at headings o)) (none_passes (λ g. eqb frequency g.frequency && has g rate) p headings t b)
+    ap (λ o. option_map (λ g. g.table) (entry_at headings o)) (none_passes (λ g. eqb frequency g.frequency && has g rate) p headings t b)
 
 -- every heading's sampling frequency is one of three
 three : List ℕ
@@ -51,7 +51,7 @@ in_three_computed : T (all in_three headings)
 unfolding in_three three one_of headings
 in_three_computed = tt
 
-pub no_frequency : (frequency : ℕ) (rate : Rate) → one_of (48_000 ∷ 44_100 ∷ 32_000 ∷ []) frequency ≡ false → table_at frequency rate ≡ none
+pub no_frequency : (frequency : ℕ) (rate : Rate) → one_of (48_000 ∷ 44_100 ∷ 32_000 ∷ []) frequency ≡ false → table_at frequency rate ≡ None
 unfolding in_three three
 no_frequency frequency rate h =
     no_table frequency rate in_three in_three_computed
@@ -70,9 +70,9 @@ unfoldable pub covers : ℕ → List ℕ → Heading → Bool
 covers frequency ks g = not (eqb frequency g.frequency) || all (one_of ks) g.kbps
 
 pub no_rate : (frequency : ℕ) (ks : List ℕ) (n : ℕ) → T (all (covers frequency ks) headings) → one_of ks n ≡ false
-    → table_at frequency (kbps (some n)) ≡ none
+    → table_at frequency (kbps (Some n)) ≡ None
 unfolding covers
-no_rate frequency ks n t h = no_table frequency (kbps (some n)) (covers frequency ks) t (λ g. go g (eqb frequency g.frequency))
+no_rate frequency ks n t h = no_table frequency (kbps (Some n)) (covers frequency ks) t (λ g. go g (eqb frequency g.frequency))
   where
     go : (g : Heading) (b : Bool) → T (not b || all (one_of ks) g.kbps) → (b && one_of g.kbps n) ≡ false
     go g false c = refl
@@ -80,10 +80,10 @@ no_rate frequency ks n t h = no_table frequency (kbps (some n)) (covers frequenc
 
 -- off all of an arm's keys, and off those of three arms
 pub off_keys : (frequency f n : ℕ) → f ≡ frequency → T (all (covers frequency (low ++ (middle ++ high))) headings)
-    → one_of low n ≡ false → one_of (middle ++ high) n ≡ false → none ≡ table_at f (kbps (some n))
+    → one_of low n ≡ false → one_of (middle ++ high) n ≡ false → None ≡ table_at f (kbps (Some n))
 off_keys frequency f n e t l h = rw e (sym (no_rate frequency (low ++ (middle ++ high)) n t (no_key_either low (middle ++ high) n l h)))
 
-pub off_three : (f : ℕ) (rate : Rate) → (f ≡ 48_000 → ⊥) → (f ≡ 44_100 → ⊥) → (f ≡ 32_000 → ⊥) → none ≡ table_at f rate
+pub off_three : (f : ℕ) (rate : Rate) → (f ≡ 48_000 → ⊥) → (f ≡ 44_100 → ⊥) → (f ≡ 32_000 → ⊥) → None ≡ table_at f rate
 off_three f rate a b c = sym (no_frequency f rate go)
   where
     go : one_of (48_000 ∷ 44_100 ∷ 32_000 ∷ []) f ≡ false
@@ -91,7 +91,7 @@ off_three f rate a b c = sym (no_frequency f rate go)
 
 -- ---- the three ways to a table
 
-pub of_lsf : (h : FrameHeader) → h.lsf ≡ true → some B1Lsf ≡ table_of h
+pub of_lsf : (h : FrameHeader) → h.lsf ≡ true → Some B1Lsf ≡ table_of h
 unfolding table_of
 of_lsf h l = rw l
 
@@ -105,8 +105,8 @@ unfolding table_of
 of_rate h l f n e = rw (l, f, e)
 
 -- a rate that is no whole number of kbit/s is in no heading
-pub no_kbps : (frequency : ℕ) → table_at frequency (kbps none) ≡ none
-no_kbps frequency = no_table frequency (kbps none) (λ g. true) any (λ g t. and-false (eqb frequency g.frequency))
+pub no_kbps : (frequency : ℕ) → table_at frequency (kbps None) ≡ None
+no_kbps frequency = no_table frequency (kbps None) (λ g. true) any (λ g t. and-false (eqb frequency g.frequency))
   where
     any : T (all (λ g. true) headings)
     any = unfold headings in tt

@@ -1,7 +1,6 @@
 -- Which table a header selects. The headings of Tables 3-B.2a to d of ISO/IEC 11172-3 name sampling frequencies and bit rates per channel;
 -- with low sampling frequencies it is always Table B.1 of ISO/IEC 13818-3 (2.4.3.1 there).
-use Rattle.std.specs.Prelude.{ℕ, ◌/◌, ◌%◌, Bool, true, false, cond, ◌&&◌, List, [], ◌∷◌, eqb}
-use Rattle.std.proofs.Math.Option.{Option, none, some, map}
+use Rattle.std.specs.Prelude.{ℕ, ◌/◌, ◌%◌, Bool, true, false, cond, ◌&&◌, List, [], ◌∷◌, eqb, Option, None, Some, option_map}
 use Rattle.tables.specs.Search.{find, one_of}
 use Rattle.header.specs.declared.FrameHeader.{FrameHeader}
 use Rattle.header.specs.Header.{channels_of, free_format}
@@ -35,8 +34,8 @@ headings =
 unfoldable pub kbps_per_channel : FrameHeader → Option ℕ
 kbps_per_channel h =
     let total = h.bit_rate / 1000 in
-    cond (eqb (channels_of h.mode) 1) (some total)
-    (cond (eqb (total % 2) 0) (some (total / 2)) none)
+    cond (eqb (channels_of h.mode) 1) (Some total)
+    (cond (eqb (total % 2) 0) (Some (total / 2)) None)
 
 -- ---- what a heading is asked: free format, or a number of kbit/s per channel
 
@@ -49,14 +48,14 @@ rate_of h = cond (free_format h) free (kbps (kbps_per_channel h))
 
 abbrev pub has : Heading → Rate → Bool
 has g free = g.free
-has g (kbps none) = false
-has g (kbps (some n)) = one_of g.kbps n
+has g (kbps None) = false
+has g (kbps (Some n)) = one_of g.kbps n
 
 -- the table whose heading has the sampling frequency and the rate
 unfoldable pub table_at : ℕ → Rate → Option BitAllocTable
 unfolding headings
-table_at frequency rate = map (λ g. g.table) (find (λ g. eqb frequency g.frequency && has g rate) headings)
+table_at frequency rate = option_map (λ g. g.table) (find (λ g. eqb frequency g.frequency && has g rate) headings)
 
 unfoldable pub table_of : FrameHeader → Option BitAllocTable
 unfolding table_at kbps_per_channel
-table_of h = cond h.lsf (some B1Lsf) (table_at h.sample_rate (rate_of h))
+table_of h = cond h.lsf (Some B1Lsf) (table_at h.sample_rate (rate_of h))

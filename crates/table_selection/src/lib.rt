@@ -2,77 +2,76 @@
 #![tactic(auto)]
 
 ghost use Rattle.std.specs.Prelude.{◌≡◌};
-ghost use Rattle.std.proofs.Math.Option.{some};
-ghost use Rattle.bitalloc.specs.Options.{number_in, table_in};
+ghost use Rattle.std.specs.Prelude.{Some};
 ghost use Rattle.table_selection.specs.Select.{kbps_per_channel, table_at, table_of, free, kbps};
 
-use bitalloc::{BitAllocTable, OptionTable, OptionU32};
+use bitalloc::BitAllocTable;
 use header::FrameHeader;
 
 // The table that the header selects.
-pub fn select_table(header: FrameHeader) -> OptionTable
-    ensures { table_in result ≡ table_of header }
+pub fn select_table(header: FrameHeader) -> Option<BitAllocTable>
+    ensures { result ≡ table_of header }
 {
     if header.lsf {
-        return OptionTable::Some(BitAllocTable::B1Lsf);
+        return Some(BitAllocTable::B1Lsf);
     }
     let sample_rate = header.sample_rate;
     if header.is_free_format() {
         return free_format_table(sample_rate);
     }
     let per_channel = bitrate_per_channel_kbps(header);
-    let OptionU32::Some(kbps) = per_channel else {
-        return OptionTable::None;
+    let Some(kbps) = per_channel else {
+        return None;
     };
     table_for(sample_rate, kbps)
 }
 
-fn free_format_table(sample_rate: u32) -> OptionTable
-    ensures { table_in result ≡ table_at sample_rate free }
+fn free_format_table(sample_rate: u32) -> Option<BitAllocTable>
+    ensures { result ≡ table_at sample_rate free }
 {
     match sample_rate {
-        48_000 => OptionTable::Some(BitAllocTable::B2a),
-        44_100 | 32_000 => OptionTable::Some(BitAllocTable::B2b),
-        _ => OptionTable::None,
+        48_000 => Some(BitAllocTable::B2a),
+        44_100 | 32_000 => Some(BitAllocTable::B2b),
+        _ => None,
     }
 }
 
-fn table_for(sample_rate: u32, per_channel: u32) -> OptionTable
-    ensures { table_in result ≡ table_at sample_rate (kbps (some per_channel)) }
+fn table_for(sample_rate: u32, per_channel: u32) -> Option<BitAllocTable>
+    ensures { result ≡ table_at sample_rate (kbps (Some per_channel)) }
 {
     match sample_rate {
         48_000 => match per_channel {
-            32 | 48 => OptionTable::Some(BitAllocTable::B2c),
-            56 | 64 | 80 | 96 | 112 | 128 | 160 | 192 => OptionTable::Some(BitAllocTable::B2a),
-            _ => OptionTable::None,
+            32 | 48 => Some(BitAllocTable::B2c),
+            56 | 64 | 80 | 96 | 112 | 128 | 160 | 192 => Some(BitAllocTable::B2a),
+            _ => None,
         },
         44_100 => match per_channel {
-            32 | 48 => OptionTable::Some(BitAllocTable::B2c),
-            56 | 64 | 80 => OptionTable::Some(BitAllocTable::B2a),
-            96 | 112 | 128 | 160 | 192 => OptionTable::Some(BitAllocTable::B2b),
-            _ => OptionTable::None,
+            32 | 48 => Some(BitAllocTable::B2c),
+            56 | 64 | 80 => Some(BitAllocTable::B2a),
+            96 | 112 | 128 | 160 | 192 => Some(BitAllocTable::B2b),
+            _ => None,
         },
         32_000 => match per_channel {
-            32 | 48 => OptionTable::Some(BitAllocTable::B2d),
-            56 | 64 | 80 => OptionTable::Some(BitAllocTable::B2a),
-            96 | 112 | 128 | 160 | 192 => OptionTable::Some(BitAllocTable::B2b),
-            _ => OptionTable::None,
+            32 | 48 => Some(BitAllocTable::B2d),
+            56 | 64 | 80 => Some(BitAllocTable::B2a),
+            96 | 112 | 128 | 160 | 192 => Some(BitAllocTable::B2b),
+            _ => None,
         },
-        _ => OptionTable::None,
+        _ => None,
     }
 }
 
 // The bit rate of each channel in whole kbit/s; an odd number has no half.
-pub fn bitrate_per_channel_kbps(header: FrameHeader) -> OptionU32
-    ensures { number_in result ≡ kbps_per_channel header }
+pub fn bitrate_per_channel_kbps(header: FrameHeader) -> Option<u32>
+    ensures { result ≡ kbps_per_channel header }
 {
     let total_kbps = header.bit_rate / 1000;
     if header.channels() == 1 {
-        return OptionU32::Some(total_kbps);
+        return Some(total_kbps);
     }
     if total_kbps % 2 == 0 {
-        OptionU32::Some(total_kbps / 2)
+        Some(total_kbps / 2)
     } else {
-        OptionU32::None
+        None
     }
 }

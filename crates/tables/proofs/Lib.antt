@@ -3,3 +3,4 @@ pub mod Listed
 pub mod Search
 pub mod Keys
 pub mod Descent
+pub mod FromFn

@@ -1,23 +1,21 @@
 -- Where a table is searched: the first entry that passes a test, or the last.
-use Rattle.std.specs.Prelude.{ℕ, suc, Bool, false, cond, ◌||◌, List, [], ◌∷◌, eqb}
-use Rattle.std.proofs.Math.Option.{Option, none, some, map}
-use Rattle.std.proofs.Math.ListN.{get_elem?}
+use Rattle.std.specs.Prelude.{ℕ, suc, Bool, false, cond, ◌||◌, List, [], ◌∷◌, eqb, Option, None, Some, option_map, slice_get}
 
 module _ {A : Type 0} where
   -- the place of the first, counted from 0
   abbrev pub place : (A → Bool) → List A → Option ℕ
-  place f [] = none
-  place f (x ∷ xs) = cond (f x) (some 0) (map suc (place f xs))
+  place f [] = None
+  place f (x ∷ xs) = cond (f x) (Some 0) (option_map suc (place f xs))
 
   -- the place of the last entry that passes
   abbrev pub last_place : (A → Bool) → List A → Option ℕ
-  last_place f [] = none
-  last_place f (x ∷ xs) = elim (last_place f xs) [ none ↦ cond (f x) (some 0) none | some i ↦ some (suc i) ]
+  last_place f [] = None
+  last_place f (x ∷ xs) = elim (last_place f xs) [ None ↦ cond (f x) (Some 0) None | Some i ↦ Some (suc i) ]
 
   -- the entry at a place
   abbrev pub entry_at : List A → Option ℕ → Option A
-  entry_at xs none = none
-  entry_at xs (some i) = get_elem? xs i
+  entry_at xs None = None
+  entry_at xs (Some i) = slice_get xs i
 
   -- the entry itself
   abbrev pub find : (A → Bool) → List A → Option A

@@ -7,7 +7,7 @@ ghost use Rattle.tables.specs.Scalefactors.{scalefactors};
 // A scalefactor index has 6 bits; 0 to 62 select a multiplier, and 63 is reserved.
 pub const SCALEFACTOR_COUNT: usize = 63;
 
-const SCALEFACTORS: [f64; SCALEFACTOR_COUNT] = [
+static SCALEFACTORS: [f64; SCALEFACTOR_COUNT] = [
     2.00000000000000,
     1.58740105196820,
     1.25992104989487,
@@ -73,9 +73,16 @@ const SCALEFACTORS: [f64; SCALEFACTOR_COUNT] = [
     0.00000120155435,
 ];
 
-// The whole table, by value: whoever reads many entries keeps it and reads them there.
+// The whole table, where it stands.
+pub fn multipliers() -> &'static [f64; SCALEFACTOR_COUNT]
+    ensures { result.now ≡ scalefactors }
+{
+    &SCALEFACTORS
+}
+
+// The whole table, by value.
 pub fn scalefactors() -> [f64; SCALEFACTOR_COUNT]
     ensures { result ≡ scalefactors }
 {
-    SCALEFACTORS
+    *multipliers()
 }

@@ -4,9 +4,10 @@ use mathlib.Core.List.{List, [], ◌∷◌, ◌++◌, append_assoc}
 use Prim.Native.Nat.{ℕ, zero, suc, ◌+◌, ◌-◌, ◌≤◌, min}
 use native.Mathlib.Nat.{le_refl, zero-min, min-zero, suc-min-suc}
 use native.Mathlib.Omega.{arith}
-use native.Mathlib.Numerals.{add-one}
-use lib.ListN.{length, take, set, replicate, length-take, length-append, length-replicate}
-use lib.Seq.{paste, length-paste, take-paste, take-suc-set, take-nil, take-take, take_all, take-append-add}
+use lib.ListN.{length, take, replicate, length-append, length-replicate}
+use lib.Seq.{take-nil, take-take, take_all, take-append-add, length-take-le}
+use borrow.Rule.Slice.PartMut.{put_mid}
+use Rattle.std.proofs.lemmas.Slice.{take-put_mid}
 use Rattle.text_line.specs.Line.{cut, spaces, aligned, fed}
 
 -- ---- parts of lists
@@ -44,61 +45,37 @@ cut_more a b = take_front 256 a b
 
 -- ---- what the code does
 
--- as many bytes of a text as fit are copied behind the bytes that are there
-pub pasted : (bytes added : List ℕ) (len at n : ℕ) → length bytes ≡ 256 → at ≡ min len 256 → n ≡ min (length added) (256 - at)
-    → take (at + n) (paste bytes at added n) ≡ cut (take len bytes ++ added)
-unfolding cut
-pasted bytes added len at n e a b =
-    let front : List ℕ = take len bytes in
-    let first : at ≡ min len (length bytes) = omega arith in
-    let second : n ≡ min (256 - at) (length added) = omega arith in
-    let same : take at bytes ≡ front = ap (λ (k : ℕ). take k bytes) first ∙ take_min len bytes in
-    let rest : take n added ≡ take (256 - at) added = ap (λ (k : ℕ). take k added) second ∙ take_min (256 - at) added in
-    let there : length front + (256 - at) ≡ 256 = omega (arith, length-take len bytes) in
-    take-paste bytes at added n (omega arith) (omega arith)
-    ∙ ap (λ (t : List ℕ). t ++ take n added) same
-    ∙ ap (λ (t : List ℕ). front ++ t) rest
-    ∙ sym (take-append-add front added (256 - at))
-    ∙ ap (λ (k : ℕ). take k (front ++ added)) there
+-- as many bytes of a text as fit stand behind the bytes that are there
+pub put_behind : (N at k n : ℕ) (bytes added part : List ℕ) → length bytes ≡ N → at ≤ N → n ≡ min (length added) (N - at) → part ≡ take n added
+    → take (at + n) (put_mid at k bytes part) ≡ take N (take at bytes ++ added)
+put_behind N at k n bytes added part e h m p =
+    let front : List ℕ = take at bytes in
+    let room : n ≡ min (N - at) (length added) = omega arith in
+    let long : length part ≡ n = ap length p ∙ length-take-le n added (omega arith) in
+    let there : length front + (N - at) ≡ N = omega (arith, length-take-le at bytes (omega arith)) in
+    take-put_mid at k bytes part (at + n) (omega arith) (omega arith)
+    ∙ ap (λ (t : List ℕ). front ++ t) (p ∙ ap (λ (i : ℕ). take i added) room ∙ take_min (N - at) added)
+    ∙ sym (take-append-add front added (N - at))
+    ∙ ap (λ (i : ℕ). take i (front ++ added)) there
 
--- all of a text is copied, and a line feed is put behind it
-pub ended_by : (bytes space full : List ℕ) (len n : ℕ) → length bytes ≡ 256 → length space ≡ 257 → n ≡ min len 256 → full ≡ paste space 0 bytes n
-    → take (n + 1) (set full n 10) ≡ fed (take len bytes)
-ended_by bytes space full len n e s a f =
-    let first : n ≡ min len (length bytes) = omega arith in
-    let start : n ≡ 0 + n = omega arith in
-    let long : length full ≡ 257 = ap length f ∙ length-paste space 0 bytes n (omega arith) (omega arith) ∙ s in
-    let same : take n bytes ≡ take len bytes = ap (λ (k : ℕ). take k bytes) first ∙ take_min len bytes in
-    ap (λ (k : ℕ). take k (set full n 10)) (add-one n)
-    ∙ take-suc-set full n 10 (omega arith)
-    ∙ ap (λ (t : List ℕ). take n t ++ 10 ∷ []) f
-    ∙ ap (λ (k : ℕ). take k (paste space 0 bytes n) ++ 10 ∷ []) start
-    ∙ ap (λ (t : List ℕ). t ++ 10 ∷ []) (take-paste space 0 bytes n (omega arith) (omega arith) ∙ same)
+-- all of a text has room, and a line feed behind it
+pub ended_by : {e r s : List ℕ} (t : List ℕ) → length t ≤ 256 → e ≡ [] → r ≡ take 257 (e ++ t) → s ≡ take 257 (r ++ 10 ∷ []) → s ≡ fed t
+ended_by t h ee er es =
+    es
+    ∙ ap (λ (x : List ℕ). take 257 (x ++ 10 ∷ [])) (er ∙ ap (λ (x : List ℕ). take 257 (x ++ t)) ee ∙ take_all 257 t (omega arith))
+    ∙ take_all 257 (fed t) (simp length-append (omega arith))
 
 -- as many spaces as a line holds
-pub blanks : (t r b : List ℕ) (n k : ℕ) → b ≡ spaces 256 → k ≡ min n 256 → r ≡ cut (t ++ take k b) → r ≡ cut (t ++ spaces n)
+pub blanks : {r : List ℕ} (t : List ℕ) (n k : ℕ) → k ≡ min n 256 → r ≡ cut (t ++ take k (spaces 256)) → r ≡ cut (t ++ spaces n)
 unfolding cut
-blanks t r b n k eb e er =
-    let fewer : min k 256 ≡ min 256 n = omega arith in
-    er
-    ∙ ap (λ (s : List ℕ). take 256 (t ++ take k s)) eb
-    ∙ ap (λ (s : List ℕ). take 256 (t ++ s)) (take_replicate k 256 32 ∙ ap (λ (i : ℕ). replicate i 32) fewer ∙ sym (take_replicate 256 n 32))
-    ∙ take_back 256 256 t (replicate n 32) (le_refl 256)
+blanks t n k e er =
+    er ∙ ap (λ (s : List ℕ). take 256 (t ++ s)) same ∙ take_back 256 256 t (replicate n 32) (le_refl 256)
+  where
+    fewer : min k 256 ≡ min 256 n
+    fewer = omega arith
 
--- a line's text behind the spaces that align it
-pub columned : (t l r bytes : List ℕ) (width len k : ℕ) → length bytes ≡ 256 → k ≡ min len 256
-    → l ≡ cut (t ++ spaces (width - k)) → r ≡ cut (l ++ take k bytes) → r ≡ cut (t ++ aligned width (take len bytes))
-unfolding aligned
-columned t l r bytes width len k e a el er =
-    let there : k ≡ min len (length bytes) = omega arith in
-    let same : take k bytes ≡ take len bytes = ap (λ (i : ℕ). take i bytes) there ∙ take_min len bytes in
-    let wide : k ≡ length (take len bytes) = omega (arith, length-take len bytes) in
-    er
-    ∙ ap (λ (s : List ℕ). cut (s ++ take k bytes)) el
-    ∙ cut_more (t ++ spaces (width - k)) (take k bytes)
-    ∙ ap (λ (s : List ℕ). cut ((t ++ spaces (width - k)) ++ s)) same
-    ∙ ap (λ (i : ℕ). cut ((t ++ spaces (width - i)) ++ take len bytes)) wide
-    ∙ ap cut (append_assoc t _ _)
+    same : take k (spaces 256) ≡ take 256 (replicate n 32)
+    same = take_replicate k 256 32 ∙ ap (λ (i : ℕ). replicate i 32) fewer ∙ sym (take_replicate 256 n 32)
 
 -- ---- for those who build lines
 
@@ -113,6 +90,12 @@ more t a b el er = behind (t ++ a) b el er ∙ ap cut (append_assoc t a b)
 -- a text that a line holds whole, behind nothing
 pub alone : {l r : List ℕ} (t : List ℕ) → l ≡ [] → r ≡ cut (l ++ t) → length t ≤ 256 → r ≡ t
 alone t el er h = er ∙ ap (λ (s : List ℕ). cut (s ++ t)) el ∙ cut_whole t h
+
+-- a text behind the spaces that align it
+pub columned : {l r : List ℕ} (t column : List ℕ) (width n : ℕ) → n ≡ width - length column → l ≡ cut (t ++ spaces n) → r ≡ cut (l ++ column)
+    → r ≡ cut (t ++ aligned width column)
+unfolding aligned
+columned t column width n e el er = more t (spaces n) column el er ∙ ap (λ (i : ℕ). cut (t ++ (spaces i ++ column))) e
 
 -- ---- the length of a column
 

@@ -1,11 +1,10 @@
 -- What a line says, and columns.
-use Rattle.std.specs.Prelude.{ℕ, ◌-◌, ◌≤◌, ◌≡◌, List, [], ◌∷◌, ◌++◌, length, take, replicate}
+use Rattle.std.specs.Prelude.{ℕ, ◌-◌, List, [], ◌∷◌, ◌++◌, length, take, replicate}
 use Prim.Native.Char.{code}
-use Rattle.text_line.specs.declared.Line.{Line}
-use Rattle.text_line.specs.declared.EndedLine.{EndedLine}
+use Rattle.text_line.specs.declared.line.Text.{Text}
 
--- a line's text
-abbrev pub text_of : Line → List ℕ
+-- a text in fixed memory, as of a line
+abbrev pub text_of : {N : ℕ} → Text N → List ℕ
 text_of l = take l.length l.bytes
 
 -- what a line holds of a text
@@ -22,8 +21,3 @@ aligned width t = spaces (width - length t) ++ t
 -- a text with a line feed behind it
 abbrev pub fed : List ℕ → List ℕ
 fed t = t ++ code "\n" ∷ []
-
--- a line as it is written
-pub record EndedIs (l : Line) (r : EndedLine) : Type 0 where
-  pub whole : take r.size r.bytes ≡ fed (text_of l)
-  pub within : r.size ≤ 257

@@ -1,12 +1,14 @@
 -- Counting the lines of an answer: every one is there until the first that is not; and the text of those that were written.
-use Rattle.std.proofs.Common.{◌≡◌, refl, sym, ap, ◌∙◌, subst, Bool, true, false, true≢false, List, [], ◌∷◌, ◌++◌, append_assoc, append-nil, ℕ, ◌+◌, ◌≤◌, ◌<◌, arith, T, ltb, ltb→lt, length, take, drop, get_or, take-add, ltb-false}
-use Rattle.std.proofs.Math.Decide.{dec_lt}
-use Rattle.std.proofs.Math.ListN.{drop_of_length-le}
+use Rattle.std.proofs.Common.{◌≡◌, refl, sym, ap, ◌∙◌, subst, true≢false, List, [], ◌∷◌, ◌++◌, append_assoc, append-nil, ℕ, ◌+◌, ◌≤◌, ◌<◌, arith, length, take, drop, get_or, take-add}
+use Rattle.std.proofs.Common.{inl, inr}
 use Rattle.std.proofs.Math.Seq.{drop-cons}
-use borrow.Author.Tests.{lt-ltb}
-use Rattle.std.specs.Prelude.{None, Some, Option, Ok, Err, Result, IsOk, OnOk}
+use Rattle.std.proofs.lemmas.Bool.{cases_lt}
+use Rattle.std.proofs.lemmas.Option.{slice_get_within, slice_get-get_or, get_or_from_slice_get}
+use Rattle.std.specs.Prelude.{None, Some, Option, is_none, Ok, Err, Result, IsOk, OnOk}
 use Rattle.std.specs.Io.KnownBytes.{Appends}
-use Rattle.text_line.specs.Line.{fed}
+use Rattle.text_line.specs.declared.line.Text.{Text}
+use Rattle.text_line.specs.Line.{text_of, fed}
+use Rattle.text_line.specs.Page.{LineAt}
 use Rattle.word_io.specs.Words.{InputRead}
 use Rattle.word_io.specs.Written.{lines_in, page_text, Written}
 
@@ -19,19 +21,18 @@ module _ (page : List (List ℕ)) where
   unfolding Counted
   none_yet = omega arith
 
-  pub one_more : (n : ℕ) (there : Bool) → there ≡ ltb n (length page) → there ≡ true → Counted page (n + 1)
+  pub one_more : (n : ℕ) (l : Text 256) → LineAt page n (Some l) → Counted page (n + 1)
   unfolding Counted
-  one_more n there e t = let h = ltb→lt n (length page) (subst T (sym t ∙ e) tt) in omega arith
+  one_more n l e = let h = slice_get_within page n _ (sym e) in omega arith
 
-  pub no_more : (n : ℕ) (there : Bool) → n < 18446744073709551615 → Counted page n → there ≡ ltb n (length page) → there ≡ false → n ≡ lines_in page
+  pub no_more : (n : ℕ) → n < 18446744073709551615 → Counted page n → LineAt page n None → n ≡ lines_in page
   unfolding Counted lines_in
-  no_more n there m c e t = go (dec_lt n (length page))
-    where
-      go : Dec (n < length page) → n ≡ lines_in page
-      go (yes h) = absurd (true≢false (sym (lt-ltb n (length page) h) ∙ sym e ∙ t))
-      go (no h) = omega arith
+  no_more n m c e = elim (cases_lt n (length page)) [
+    | inl h ↦ absurd (true≢false (ap is_none (e ∙ slice_get-get_or page n [] h)))
+    | inr h ↦ omega arith
+  ]
 
-  pub counted_out : (n : ℕ) → 18446744073709551615 ≤ n → n ≤ 18446744073709551615 → Counted page n → n ≡ lines_in page
+  pub counted_out : (n : ℕ) → 18446744073709551615 ≤ n → n ≤ 18446744073709551615 → Counted page n → 18446744073709551615 ≡ lines_in page
   unfolding Counted lines_in
   counted_out n l m c = omega arith
 
@@ -58,37 +59,24 @@ pub no_text : (a : Option (List ℕ)) → Appends a a (page_text [])
 unfolding page_text
 no_text a = same_text a
 
--- behind the last line
-pub none_written : (page : List (List ℕ)) (a : Option (List ℕ)) (n : ℕ) (there : Bool) → there ≡ ltb n (length page) → there ≡ false
-    → Appends a a (page_text (take 1 (drop n page)))
-unfolding page_text
-none_written page a n there e h =
-    let l = ltb-false n (length page) (sym e ∙ h) in
-    subst (Appends a a) (sym (ap (λ (r : List (List ℕ)). page_text (take 1 r)) (drop_of_length-le page l))) (same_text a)
-
 module _ (page : List (List ℕ)) (a b : Option (List ℕ)) where
-  -- the line of a number that is there
-  pub line_written : (n : ℕ) (there : Bool) (t : List ℕ) → there ≡ ltb n (length page) → there ≡ true → t ≡ fed (get_or page n []) → Appends a b t
-      → Appends a b (page_text (take 1 (drop n page)))
+  -- the line of a number behind those before it
+  pub more_written : (c : Option (List ℕ)) (n : ℕ) (l : Text 256) → LineAt page n (Some l) → Appends a b (page_text (take n page)) → Appends b c (fed (text_of l))
+      → Appends a c (page_text (take (n + 1) page))
   unfolding page_text
-  line_written n there t e h f p =
-      let l = ltb→lt n (length page) (subst T (sym h ∙ e) tt) in
-      let one : page_text (take 1 (drop n page)) ≡ t =
-      ap (λ (r : List (List ℕ)). page_text (take 1 r)) (drop-cons page n [] l) ∙ append-nil (fed (get_or page n [])) ∙ sym f in
-      subst (Appends a b) (sym one) p
+  more_written c n l e p q =
+      let within = slice_get_within page n _ (sym e) in
+      let line : get_or page n [] ≡ text_of l = get_or_from_slice_get page n (text_of l) [] (sym e) in
+      let one : page_text (take 1 (drop n page)) ≡ fed (text_of l) =
+      ap (λ (r : List (List ℕ)). page_text (take 1 r)) (drop-cons page n [] within) ∙ append-nil (fed (get_or page n [])) ∙ ap fed line in
+      let all : page_text (take (n + 1) page) ≡ page_text (take n page) ++ fed (text_of l) =
+      ap page_text (take-add n 1 page) ∙ page_text-append (take n page) (take 1 (drop n page)) ∙ ap (λ (t : List ℕ). page_text (take n page) ++ t) one in
+      subst (Appends a c) (sym all) (joined a b c _ _ p q)
 
-  pub more_written : (c : Option (List ℕ)) (n : ℕ) → Appends a b (page_text (take n page)) → Appends b c (page_text (take 1 (drop n page))) → Appends a c (page_text (take (n + 1) page))
-  more_written c n p q =
-      subst (Appends a c) (sym (ap page_text (take-add n 1 page) ∙ page_text-append (take n page) (take 1 (drop n page)))) (joined a b c _ _ p q)
-
-  -- behind the last line nothing more is written
-  pub all_written_of : (c : Option (List ℕ)) (n : ℕ) (there : Bool) → there ≡ ltb n (length page) → there ≡ false
-      → Appends a b (page_text (take n page)) → Appends b c (page_text (take 1 (drop n page))) → Appends a c (page_text (take n page))
-  unfolding page_text
-  all_written_of c n there e h p q =
-      let l = ltb-false n (length page) (sym e ∙ h) in
-      let none : page_text (take 1 (drop n page)) ≡ [] = ap (λ (r : List (List ℕ)). page_text (take 1 r)) (drop_of_length-le page l) in
-      subst (Appends a c) (append-nil (page_text (take n page))) (joined a b c _ [] p (subst (Appends b c) none q))
+-- as far as 64 bits count
+pub until_full : {X E : Type 0} (page : List (List ℕ)) (a b : Option (List ℕ)) (n : ℕ) (r : Result X E) → 18446744073709551615 ≤ n → n ≤ 18446744073709551615
+    → OnOk r (Appends a b (page_text (take n page))) → OnOk r (Appends a b (page_text (take 18446744073709551615 page)))
+until_full page a b n r l m p = let e : n ≡ 18446744073709551615 = omega arith in subst (λ (k : ℕ). OnOk r (Appends a b (page_text (take k page)))) e p
 
 -- what always holds
 pub on_ok : {X E P : Type 0} (r : Result X E) → P → OnOk r P

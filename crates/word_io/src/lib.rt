@@ -1,10 +1,13 @@
-// What the programs whose words give a frame header read: the words of the command line, and standard input.
+// What the programs whose words give a frame header read, the words of the command line and standard input, and how they write what they answer.
 #![tactic(auto)]
+
+mod answer;
 
 ghost use Rattle.std.specs.Prelude.{◌<◌, ◌≤◌, length, take, IsOk, OnOk};
 ghost use Rattle.std.specs.Io.KnownBytes.{Consumes, IsAtEnd};
 ghost use Rattle.word_io.specs.Words.{WordEnded, WordRead, WordsRead, InputRead};
 
+pub use answer::{Answer, run, write_answer};
 use std::env::{Env, FillError};
 use std::io;
 use std::io::Read;
@@ -24,11 +27,9 @@ pub fn word_count(rt: &impl Env) -> usize {
 pub fn read_words(rt: &impl Env, count: usize, words: &mut [u8]) -> usize
     ensures { WordsRead count words.old words.new result }
 {
-    let mut at: usize = 0;
-    let mut i: usize = 1;
-    while i < count {
+    let mut at = 0;
+    for i in 1..count {
         at = read_word(rt, i, words, at);
-        i = i + 1;
     }
     at
 }
@@ -82,11 +83,12 @@ fn read_full<R: Read>(from: &mut R, input: &mut [u8], outcome: &mut io::Result<(
     ensures bytes { Consumes (R.remaining from.old) (R.remaining from.new) (take result input.new) }
     ensures end { OnOk outcome.new (result < length input.new → IsAtEnd (R.remaining from.new)) }
 {
-    let mut at: usize = 0;
+    let mut at = 0;
+    // A `while`: each turn goes on by as many bytes as were read, and std's `read_exact` and `read_to_end` do not say what they read before they failed.
     while at < input.len() {
         match from.read(&mut input[at..]) {
             Ok(0) => break,
-            Ok(n) => at = at + n,
+            Ok(n) => at += n,
             Err(e) => {
                 *outcome = Err(e);
                 break;

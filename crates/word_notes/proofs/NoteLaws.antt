@@ -6,6 +6,7 @@ use native.Mathlib.Omega.{arith}
 use mathlib.Core.Bool.{Bool, true, false, not}
 use lib.Dec.{T, leb, leb→le, nleb→lt}
 use lib.ListN.{length, take, drop, length-append, length-take, length-drop}
+use Rattle.plan_words.specs.declared.WordPlace.{WordPlace}
 use Rattle.text_line.specs.Line.{cut}
 use Rattle.text_line.specs.Number.{number_text}
 use Rattle.text_line.proofs.LineLaws.{take_min}
@@ -35,22 +36,28 @@ differences at end len last start rest a b d = omega arith
 nothing_left : (at end len last rest : ℕ) → last < at → last ≡ min end len → rest ≡ len - at → 0 ≡ min (min (end - at) 80) rest
 nothing_left at end len last rest a b d = omega arith
 
-module _ (words : List ℕ) (at end : ℕ) where
-  excerpt_length : length (excerpt words at end) ≤ 80
+module _ (words : List ℕ) (p : WordPlace) where
+  abbrev at : ℕ
+  at = p.at
+
+  abbrev end : ℕ
+  end = p.end
+
+  excerpt_length : length (excerpt words p) ≤ 80
   unfolding excerpt
   excerpt_length = omega (arith, length-take (min (end - at) 80) (drop at words))
 
-  pub unknown_length : length (unknown_text words at end) ≤ 256
+  pub unknown_length : length (unknown_text words p) ≤ 256
   unfolding unknown_text
   unknown_length = simp length-append (omega (arith, excerpt_length))
 
-  pub twice_length : length (twice_text words at end) ≤ 256
+  pub twice_length : length (twice_text words p) ≤ 256
   unfolding twice_text
   twice_length = simp length-append (omega (arith, excerpt_length))
 
   -- the bytes that the code takes
   pub excerpt_is : (last start n : ℕ) → last ≡ min end (length words) → start ≡ min at last → n ≡ min (last - start) 80
-      → take (start + n - start) (drop start words) ≡ excerpt words at end
+      → take (start + n - start) (drop start words) ≡ excerpt words p
   unfolding excerpt
   excerpt_is last start n el es en = go (leb at last) (leb→le at last) (nleb→lt at last)
     where

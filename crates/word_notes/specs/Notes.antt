@@ -1,41 +1,34 @@
 -- The line that stands alone where the words of a command line cannot be read, or where the words or the input are too long.
-use Rattle.std.specs.Prelude.{ℕ, ◌-◌, min, Bool, true, false, List, [], ◌++◌, take, drop}
-use Rattle.plan_words.specs.declared.WordsAnswer.{WordsAnswer}
-use Rattle.plan_words.specs.declared.WordsAnswer.TheVariants.{Accepted, Unknown, Twice, NoSampleRate, NoBitRate}
+use Rattle.std.specs.Prelude.{ℕ, ◌-◌, min, Bool, is_ok, List, ◌++◌, take, drop}
+use Rattle.plan_words.specs.declared.WordPlace.{WordPlace}
+use Rattle.plan_words.specs.declared.WordsError.{WordsError}
+use Rattle.plan_words.specs.declared.WordsError.TheVariants.{Unknown, Twice, NoSampleRate, NoBitRate}
 use Rattle.plan_words.specs.Line.{words_of}
 use Rattle.plan_text.specs.Quoted.{text}
 use Rattle.text_line.specs.Number.{number_text}
 
-abbrev pub words_accepted : WordsAnswer → Bool
-words_accepted Accepted = true
-words_accepted Unknown = false
-words_accepted Twice = false
-words_accepted NoSampleRate = false
-words_accepted NoBitRate = false
-
 -- words that are not accepted are told without asking for an input
 unfoldable pub wants_input : List ℕ → Bool
-wants_input words = words_accepted (words_of words).answer
+wants_input words = is_ok (words_of words)
 
--- a word, from `at` to before `end`; of a long one the first 80 bytes
-unfoldable pub excerpt : List ℕ → ℕ → ℕ → List ℕ
-excerpt words at end = take (min (end - at) 80) (drop at words)
+-- a word; of a long one the first 80 bytes
+unfoldable pub excerpt : List ℕ → WordPlace → List ℕ
+excerpt words p = take (min (p.end - p.at) 80) (drop p.at words)
 
-unfoldable pub unknown_text : List ℕ → ℕ → ℕ → List ℕ
-unknown_text words at end =
-    text "cannot read '" ++ excerpt words at end
+unfoldable pub unknown_text : List ℕ → WordPlace → List ℕ
+unknown_text words p =
+    text "cannot read '" ++ excerpt words p
     ++ text "': say fs=, rate= or ancillary= with a whole number; mode=stereo, joint, dual or single; bound=4, 8, 12 or 16; lsf=, padding= or crc= with 0 or 1."
 
-unfoldable pub twice_text : List ℕ → ℕ → ℕ → List ℕ
-twice_text words at end = text "set twice, the second time by '" ++ excerpt words at end ++ text "'."
+unfoldable pub twice_text : List ℕ → WordPlace → List ℕ
+twice_text words p = text "set twice, the second time by '" ++ excerpt words p ++ text "'."
 
 -- of words that are not accepted
-abbrev pub words_line : List ℕ → WordsAnswer → ℕ → ℕ → List ℕ
-words_line words Accepted at end = []
-words_line words Unknown at end = unknown_text words at end
-words_line words Twice at end = twice_text words at end
-words_line words NoSampleRate at end = text "fs is missing: say fs=48000 or another sample rate in Hz."
-words_line words NoBitRate at end = text "rate is missing: say rate=192000 or another bit rate in bit/s."
+abbrev pub words_line : List ℕ → WordsError → List ℕ
+words_line words (Unknown p) = unknown_text words p
+words_line words (Twice p) = twice_text words p
+words_line words NoSampleRate = text "fs is missing: say fs=48000 or another sample rate in Hz."
+words_line words NoBitRate = text "rate is missing: say rate=192000 or another bit rate in bit/s."
 
 -- the line of the input that a note is about
 unfoldable pub on_line : ℕ → List ℕ

@@ -3,90 +3,64 @@
 #![tactic(auto)]
 
 ghost use Rattle.std.specs.Prelude.{◌≡◌, ◌++◌};
-ghost use Rattle.plan_text.specs.Quoted.{text};
 ghost use Rattle.text_line.specs.Line.{text_of, cut};
-ghost use Rattle.word_notes.specs.Notes.{excerpt, unknown_text, twice_text, words_line, words_accepted, wants_input, on_line, long_words_line, long_input_line};
+ghost use Rattle.word_notes.specs.Notes.{excerpt, unknown_text, twice_text, words_line, wants_input, on_line, long_words_line, long_input_line};
 
-use plan_words::{Words, WordsAnswer};
+use plan_words::{WordPlace, WordsError};
 use text_line::Line;
 
-// Whether words are accepted.
-pub fn accepted(answer: WordsAnswer) -> bool
-    ensures { result ≡ words_accepted answer }
-{
-    match answer {
-        WordsAnswer::Accepted => true,
-        WordsAnswer::Unknown => false,
-        WordsAnswer::Twice => false,
-        WordsAnswer::NoSampleRate => false,
-        WordsAnswer::NoBitRate => false,
-    }
-}
-
 // Whether the words are accepted, so that the input is asked for.
+#[tactic(auto, unfolding(crate::specs::Notes::wants_input))]
 pub fn wants_input(words: &[u8]) -> bool
     ensures { result ≡ wants_input words.now }
 {
-    let read = plan_words::read_words(words);
-    let answer = read.answer;
-    accepted(answer)
+    plan_words::read_words(words).is_ok()
 }
 
-// The line that says what is wrong with words, from what they were read as; empty where they are accepted.
-pub fn words_line(words: &[u8], read: Words) -> Line
-    ensures { text_of result ≡ words_line words.now read.answer read.at read.end }
+// The line that says what is wrong with words.
+pub fn words_line(words: &[u8], error: WordsError) -> Line
+    ensures { text_of result ≡ words_line words.now error }
 {
-    let answer = read.answer;
-    match answer {
-        WordsAnswer::Accepted => Line::new(),
-        WordsAnswer::Unknown => unknown_word(words, read.at, read.end),
-        WordsAnswer::Twice => twice_word(words, read.at, read.end),
-        WordsAnswer::NoSampleRate => no_sample_rate(),
-        WordsAnswer::NoBitRate => no_bit_rate(),
+    match error {
+        WordsError::Unknown(place) => unknown_word(words, place),
+        WordsError::Twice(place) => twice_word(words, place),
+        WordsError::NoSampleRate => {
+            Line::new().text(b"fs is missing: say fs=48000 or another sample rate in Hz.")
+        }
+        WordsError::NoBitRate => {
+            Line::new().text(b"rate is missing: say rate=192000 or another bit rate in bit/s.")
+        }
     }
 }
 
-fn unknown_word(words: &[u8], at: usize, end: usize) -> Line
-    ensures { text_of result ≡ unknown_text words.now at end }
+fn unknown_word(words: &[u8], place: WordPlace) -> Line
+    ensures { text_of result ≡ unknown_text words.now place }
 {
-    let line = with_excerpt(Line::new().text(b"cannot read '"), words, at, end);
+    let line = with_excerpt(Line::new().text(b"cannot read '"), words, place);
     line.text(
         b"': say fs=, rate= or ancillary= with a whole number; mode=stereo, joint, dual or single; bound=4, 8, 12 or 16; lsf=, padding= or crc= with 0 or 1.",
     )
 }
 
-fn twice_word(words: &[u8], at: usize, end: usize) -> Line
-    ensures { text_of result ≡ twice_text words.now at end }
+fn twice_word(words: &[u8], place: WordPlace) -> Line
+    ensures { text_of result ≡ twice_text words.now place }
 {
-    with_excerpt(
+    let line = with_excerpt(
         Line::new().text(b"set twice, the second time by '"),
         words,
-        at,
-        end,
-    )
-    .text(b"'.")
+        place,
+    );
+    line.text(b"'.")
 }
 
 // A word behind a line; of a long one the first 80 bytes.
-fn with_excerpt(line: Line, words: &[u8], at: usize, end: usize) -> Line
-    ensures { text_of result ≡ cut (text_of line ++ excerpt words.now at end) }
+fn with_excerpt(line: Line, words: &[u8], place: WordPlace) -> Line
+    ensures { text_of result ≡ cut (text_of line ++ excerpt words.now place) }
 {
-    let last = text_line::least(end, words.len());
-    let start = text_line::least(at, last);
-    let stop = start + text_line::least(last - start, 80);
+    let last = place.end.min(words.len());
+    let start = place.at.min(last);
+    let stop = start + (last - start).min(80);
     line.text(&words[start..stop])
-}
-
-fn no_sample_rate() -> Line
-    ensures { text_of result ≡ text "fs is missing: say fs=48000 or another sample rate in Hz." }
-{
-    Line::new().text(b"fs is missing: say fs=48000 or another sample rate in Hz.")
-}
-
-fn no_bit_rate() -> Line
-    ensures { text_of result ≡ text "rate is missing: say rate=192000 or another bit rate in bit/s." }
-{
-    Line::new().text(b"rate is missing: say rate=192000 or another bit rate in bit/s.")
 }
 
 // The line of the input that a note is about.

@@ -1,6 +1,5 @@
 -- Worked cases: answers found by hand, in one table, and the claim that the definitions give them.
-use Rattle.std.specs.Prelude.{ℕ, zero, suc, ◌≡◌, Bool, true, false, List, [], ◌∷◌, ◌++◌, map, Float, length, replicate}
-use Rattle.std.proofs.Math.Option.{Option, none, some}
+use Rattle.std.specs.Prelude.{ℕ, zero, suc, ◌≡◌, Bool, true, false, List, [], ◌∷◌, ◌++◌, map, Float, length, replicate, Option, None, Some}
 use Rattle.tables.specs.Decimal.{decimal}
 use Rattle.header.specs.declared.FrameHeader.{FrameHeader}
 use Rattle.header.specs.declared.Mode.{Mode}
@@ -17,8 +16,7 @@ use Rattle.audio_data.specs.Scfsi.{code_of}
 use Rattle.encoder_scalefactors.specs.Indices.{pick_of}
 use Rattle.encoder_scfsi.specs.Select.{selection}
 use Rattle.encoder_bit_budget.specs.Budget.{plain, BudgetAnswer, budget_of, fixed_in}
-use Rattle.encoder_bit_allocator.specs.declared.Allocation.{Allocation}
-use Rattle.encoder_bit_allocator.specs.Allocation.{allocation_of}
+use Rattle.encoder_bit_allocator.specs.Allocation.{AllocationAnswer, allocation_of}
 use Rattle.side_info.specs.SideInfo.{side_info}
 use Rattle.side_info_writer.specs.declared.WrittenSideInfo.{WrittenSideInfo}
 use Rattle.side_info_writer.specs.Written.{written_of}
@@ -78,7 +76,7 @@ pub data Answer : Type 0 where
 abbrev of_budget : BudgetAnswer → Answer
 of_budget a = budgeted a.answer a.budget.table a.budget.cb (fixed_in a.budget)
 
-abbrev of_allocation : Allocation → Answer
+abbrev of_allocation : AllocationAnswer → Answer
 of_allocation a = allocated a.number a.audio.nb_steps a.left a.cb a.fixed a.banc
 
 abbrev of_written : WrittenSideInfo → Answer
@@ -188,12 +186,12 @@ cases =
     ∷ case (budget (frame false 44_100 192_000 JointStereo true)) (budgeted 0 B2b 5008 142)
     -- stereo at 44100 Hz and 193000 bit/s: off the ladder; an odd number of kbit/s selects no table, and the frame has 630 bytes
     ∷ case (budget (frame false 44_100 193_000 Stereo true)) (budgeted 16 B2a 0 0)
-    ∷ case (table (frame false 44_100 193_000 Stereo true)) (selected none)
+    ∷ case (table (frame false 44_100 193_000 Stereo true)) (selected None)
     ∷ case (bytes (frame false 44_100 193_000 Stereo true)) (sized 0 630)
     -- single channel at 48000 Hz and 64999 bit/s: off the ladder; it counts as 64 kbit/s and selects table B2a, and the frame has 194 bytes
     ∷ case (budget (frame false 48_000 64_999 SingleChannel true)) (budgeted 16 B2a 0 0)
     ∷ case (allocation (frame false 48_000 64_999 SingleChannel true) any 0) (allocated 16 (idle 64) 0 0 0 0)
-    ∷ case (table (frame false 48_000 64_999 SingleChannel true)) (selected (some B2a))
+    ∷ case (table (frame false 48_000 64_999 SingleChannel true)) (selected (Some B2a))
     ∷ case (bytes (frame false 48_000 64_999 SingleChannel true)) (sized 0 194)
     -- 64000 bit/s there: 192 bytes, of whose bits 120 are fixed
     ∷ case (budget (frame false 48_000 64_000 SingleChannel true)) (budgeted 0 B2a 1536 120)

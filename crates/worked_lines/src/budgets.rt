@@ -1,8 +1,6 @@
 // Lines of headers: their tables and the bits of their frames, and what ratios demand.
 use crate::show;
-use bitalloc::OptionTable;
-use encoder_bit_budget::Budget;
-use header::{FrameHeader, FrameSize, Mode, ModeExtension};
+use header::{FrameHeader, Mode, ModeExtension};
 use std::io;
 
 // A header without CRC and padding.
@@ -73,48 +71,26 @@ pub fn refused(rt: &impl Print) -> io::Result<()> {
     show::numbers(rt, "without LSF:", &[1, 0, 0, 0, 0], &no_rate)
 }
 
-// The answer's number, the table's, the bytes of the frame, its fixed bits and the bits offered beside no ancillary ones.
+// The answer's number, the table's from 1 on, the bytes of the frame, its fixed bits and the bits offered beside no ancillary ones,
+// 0 where they are below 0.
 fn answers(header: FrameHeader) -> [u64; 5] {
-    let budget = encoder_bit_budget::fixed_bit_budget(header);
+    let table = table_selection::select_table(header);
+    let (number, fixed) = match encoder_bit_budget::fixed_bit_budget(header) {
+        Ok(budget) => (0, budget.fixed()),
+        Err(error) => (error.number(), 0),
+    };
     let available = encoder_bit_budget::available_data_bits(header, 0);
     [
-        budget.refusal() as u64,
-        table_number(table_selection::select_table(header)),
-        bytes(header),
-        fixed_bits(budget),
-        not_below_zero(available.bits()),
+        u64::from(number),
+        table.map_or(0, |table| 1 + u64::from(table.number())),
+        header.frame_size_bytes().unwrap_or(0),
+        fixed,
+        u64::try_from(available.unwrap_or(0)).unwrap_or(0),
     ]
 }
 
-// From 1 on; 0 where there is none.
-fn table_number(found: OptionTable) -> u64 {
-    let OptionTable::Some(table) = found else {
-        return 0;
-    };
-    1 + table.number() as u64
-}
-
-fn bytes(header: FrameHeader) -> u64 {
-    let size = header.frame_size_bytes();
-    let FrameSize::Bytes(n) = size else {
-        return 0;
-    };
-    n
-}
-
-fn fixed_bits(budget: Budget) -> u64 {
-    let Budget::Ok(b) = budget else {
-        return 0;
-    };
-    b.fixed()
-}
-
-fn not_below_zero(bits: i64) -> u64 {
-    if 0 <= bits { bits as u64 } else { 0 }
-}
-
 pub fn demands(rt: &impl Print) -> io::Result<()> {
-    let answered = [demand(0.0), demand(7.0), demand(7.5)];
+    let answered = [0.0, 7.0, 7.5].map(demand);
     show::numbers(
         rt,
         "demand on B2c, the first subband at 0.0, 7.0 and 7.5 dB:",
@@ -128,6 +104,5 @@ fn demand(smr: f64) -> u64 {
     let header = frame(false, 48_000, 32_000, Mode::SingleChannel);
     let mut first = [0.0; 32];
     first[0] = smr;
-    let answer = encoder_bit_demand::demand_bits(header, [first, [0.0; 32]]);
-    answer.bits()
+    encoder_bit_demand::demand_bits(header, [first, [0.0; 32]]).unwrap_or(0)
 }

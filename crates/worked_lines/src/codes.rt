@@ -1,10 +1,9 @@
 // Lines of scalefactor indices, scfsi and sample codes.
 use crate::show;
-use encoder_samples::SampleCode;
 use std::io;
 
 pub fn scalefactors(rt: &impl Print) -> io::Result<()> {
-    let answered = [index(0.0), index(1.0), index(2.0), index(3.0)];
+    let answered = [0.0, 1.0, 2.0, 3.0].map(index);
     show::numbers(
         rt,
         "scalefactor index of the maxima 0.0, 1.0, 2.0 and 3.0:",
@@ -14,7 +13,7 @@ pub fn scalefactors(rt: &impl Print) -> io::Result<()> {
 }
 
 fn index(max_abs: f64) -> u64 {
-    encoder_scalefactors::pick_scalefactor_index(max_abs) as u64
+    u64::from(encoder_scalefactors::pick_scalefactor_index(max_abs))
 }
 
 pub fn scfsi(rt: &impl Print) -> io::Result<()> {
@@ -29,9 +28,7 @@ pub fn scfsi(rt: &impl Print) -> io::Result<()> {
 }
 
 fn used(given: [u8; 3]) -> [u64; 3] {
-    let selection = encoder_scfsi::select_scfsi(given);
-    let indices = selection.used;
-    [indices[0] as u64, indices[1] as u64, indices[2] as u64]
+    encoder_scfsi::select_scfsi(given).used.map(u64::from)
 }
 
 pub fn samples(rt: &impl Print) -> io::Result<()> {
@@ -55,17 +52,13 @@ pub fn samples(rt: &impl Print) -> io::Result<()> {
 
 // The code of a sample; where the steps have no class, a number that no code is.
 fn code(nb_steps: u32, sample: f64) -> u64 {
-    let answer = encoder_samples::quantize_sample_for(nb_steps, sample);
-    let SampleCode::Code(n) = answer else {
-        return u64::MAX;
-    };
-    n as u64
+    encoder_samples::quantize_sample_for(nb_steps, sample).map_or(u64::MAX, u64::from)
 }
 
 // The codeword of three samples of 1.0 with 3 steps.
 fn codeword_of_ones() -> u64 {
-    let answer = encoder_samples::write_triplet_for(3, [1.0, 1.0, 1.0]);
-    let triplet = answer.triplet;
-    let codewords = triplet.codewords;
-    codewords[0] as u64
+    encoder_samples::write_triplet_for(3, [1.0; 3]).map_or(
+        u64::MAX,
+        |triplet| u64::from(triplet.codewords[0]),
+    )
 }

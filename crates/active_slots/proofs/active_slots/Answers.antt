@@ -1,28 +1,18 @@
 -- `active_slots::active_slots` meets its contract. The loop's invariant: the active slots so far and those among the slots from `k` on are all.
-use Prim.Native.Nat.{◌<◌}
-use mathlib.Core.Path.{refl}
-use lib.Dec.{ltb}
-use lib.ListN.{length, get_or}
+use Rattle.std.proofs.Common.{◌<◌, ◌≤◌, refl, ltb, length, get_or, arith}
+use borrow.Author.Rules.{rules}
 use Rattle.bitalloc.proofs.RowLaws.{flag_small}
 use Rattle.layout.specs.Layout.{slots_of}
-use borrow.Author.Rules.{rules}
 use Rattle.active_slots.proofs.ActiveLaws.{zeros_below, none_active, one_active, all_active}
 use Rattle.active_slots.proofs.active_slots.Goals as goal
 
 pub loop-k-init : goal.loop-k-init
-loop-k-init c = (search rules, none_active _ _ _ refl (λ j. zeros_below j))
-
-pub bounds-active-count : goal.bounds-active-count
-bounds-active-count c =
-    let l = c.loop-k in
-    let w = l.invariant.1.within in
-    search rules
+loop-k-init c = none_active _ _ _ refl (λ j. zeros_below j)
 
 pub overflow_add-count : goal.overflow_add-count
 overflow_add-count c =
-    let l = c.loop-k in
     let few = flag_small (ltb 0 (get_or c.args.nb_steps c.slot-slot.result 0)) in
-    let w = l.invariant.1.within in
+    let w = c.loop-k.invariant.within in
     search rules
 
 pub loop-k-preserved : goal.loop-k-preserved
@@ -30,9 +20,11 @@ loop-k-preserved c =
     let l = c.loop-k in
     let a = c.args in
     let here : l.k < length (slots_of a.layout) = rw c.slots-slots.ensures.whole at c.loop-k-test.true in
-    (search rules, one_active a.layout a.nb_steps l.k l.count _ l.active l.invariant.1 here c.slot-slot.ensures.whole c.slot-slot.ensures.below)
+    one_active a.layout a.nb_steps l.k l.count _ l.active l.invariant here c.slot-slot.ensures.whole c.slot-slot.ensures.below
 
 pub returns : goal.returns
 returns c =
     let l = c.loop-k in
-    all_active _ _ l.k l.count l.active (rw c.slots-slots.ensures.whole at l.invariant.0) (rw c.slots-slots.ensures.whole at c.loop-k-test.false) l.invariant.1
+    let up : l.k ≤ length (slots_of c.args.layout) = omega (arith, c.slots-slots.ensures.whole) in
+    let over : length (slots_of c.args.layout) ≤ l.k = omega (arith, c.slots-slots.ensures.whole) in
+    all_active _ _ l.k l.count l.active up over l.invariant

@@ -21,5 +21,5 @@ pub returns-in-Ok : goal.returns-in-Ok
 returns-in-Ok c =
     rw (c.in-Ok.is, c.number.ensures)
 
-pub returns-in-Refused : goal.returns-in-Refused
-returns-in-Refused c = rw c.in-Refused.is
+pub returns-in-Err : goal.returns-in-Err
+returns-in-Err c = rw c.in-Err.is

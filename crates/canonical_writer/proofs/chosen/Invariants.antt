@@ -1,9 +1,5 @@
-use Prim.Native.Nat.{◌-◌}
 use Rattle.canonical_writer.proofs.ChosenLaws.{ChosenTo}
 use Rattle.canonical_writer.proofs.chosen.Given as goal
 
 abbrev pub invariant-loop-slot : goal.invariant-loop-slot
 invariant-loop-slot l = ChosenTo l.scalefactor l.slots l.slot
-
-abbrev pub decreases-loop-slot : goal.decreases-loop-slot
-decreases-loop-slot l = 64 - l.slot

@@ -14,11 +14,8 @@ loop-f-preserved c =
     let l = at.loop-f in
     let many = at.fields-fields.ensures in
     let here : l.f < length (fields_of at.args.layout) = rw many.whole at c.loop-f-test.true in (
+      added (λ x. nbal_of at.args.layout.table x.subband) (fields_of at.args.layout) l.f l.bits l.invariant.0 _ _ here c.field-field.ensures.whole c.nbal-bits.ensures.whole,
       search rules,
-      (
-        added (λ x. nbal_of at.args.layout.table x.subband) (fields_of at.args.layout) l.f l.bits l.invariant.1.0 _ _ here c.field-field.ensures.whole c.nbal-bits.ensures.whole,
-        search rules,
-      ),
     )
 
 pub returns : goal.returns
@@ -26,4 +23,4 @@ unfolding allocation_bits
 returns c =
     let l = c.loop-f in
     let many = c.fields-fields.ensures in
-    summed (λ x. nbal_of c.args.layout.table x.subband) (fields_of c.args.layout) l.f l.bits l.invariant.1.0 (rw many.whole at c.loop-f-test.false)
+    summed (λ x. nbal_of c.args.layout.table x.subband) (fields_of c.args.layout) l.f l.bits l.invariant.0 (rw many.whole at c.loop-f-test.false)

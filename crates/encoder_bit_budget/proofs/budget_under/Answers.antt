@@ -12,12 +12,12 @@ pub returns-in_default : goal.returns-in_default
 returns-in_default c =
     let asked = c.requires in
     refused _ ZeroSampleRate
-    (no_sample_rate _ asked.rate _ asked.named (not_sized _ (ap size_of (sym c.in_default.is) ∙ c.frame_size_bytes-size.ensures.whole)))
+    (no_sample_rate _ asked.rate _ asked.named (not_sized _ (ap size_of (sym c.in_default.is) ∙ c.frame_size_bytes.ensures.whole)))
 
 -- the bytes are those of a frame at a rate on the ladder
-few : (c : After-of_header-layout) → c.in-Bytes.bytes ≤ 55_296_001
+few : (c : After-of_header-layout) → c.in-Some.bytes ≤ 55_296_001
 few c =
-    let z = sized _ _ (ap size_of (sym c.in-Bytes.is) ∙ c.frame_size_bytes-size.ensures.whole) in
+    let z = sized _ _ (ap size_of (sym c.in-Some.is) ∙ c.frame_size_bytes.ensures.whole) in
     few_bytes _ _ c.requires.rate z.many
 
 pub overflow_cast-bytes : goal.overflow_cast-bytes
@@ -29,6 +29,6 @@ overflow_mul-bytes c = let few = few (goal.at.overflow_mul-bytes c).After-of_hea
 pub returns : goal.returns
 returns c =
     let asked = c.requires in
-    let z = sized _ _ (ap size_of (sym c.in-Bytes.is) ∙ c.frame_size_bytes-size.ensures.whole) in
+    let z = sized _ _ (ap size_of (sym c.in-Some.is) ∙ c.frame_size_bytes.ensures.whole) in
     accepted _ _ _ asked.named (all_asked _ asked.rate _ asked.named z.rated)
     (under _ _ _ _ _ z.many c.of_header-layout.ensures c.budget_with.ensures)

@@ -15,7 +15,7 @@ field_smr-smr-requires c = (omega (arith, c.requires.0, sblimit_small c.args.tab
 pub needed_bits-requires : goal.needed_bits-requires
 needed_bits-requires c =
     let r = read (goal.at.needed_bits-requires c).After-places-places in
-    (r.least, r.most, r.long, c.first_step_bits.ensures.most)
+    (r.least, c.first_step_bits.ensures.most)
 
 pub returns : goal.returns
 returns c =

@@ -17,11 +17,8 @@ loop-f-preserved c =
     let l = at.loop-f in
     let many = at.fields-fields.ensures in
     let here : l.f < length (fields_of at.args.layout) = rw many.whole at c.loop-f-test.true in (
+      added (field_demand at.args.layout.table at.args.smr_db.now) (fields_of at.args.layout) l.f l.bits l.invariant.0 _ _ here c.field-field.ensures.whole c.field_demand-bits.ensures.whole,
       search rules,
-      (
-        added (field_demand at.args.layout.table at.args.smr_db.now) (fields_of at.args.layout) l.f l.bits l.invariant.1.0 _ _ here c.field-field.ensures.whole c.field_demand-bits.ensures.whole,
-        search rules,
-      ),
     )
 
 pub returns : goal.returns
@@ -30,7 +27,7 @@ returns c =
     let l = c.loop-f in
     let many = c.fields-fields.ensures in
     record {
-      whole = summed (field_demand c.args.layout.table c.args.smr_db.now) (fields_of c.args.layout) l.f l.bits l.invariant.1.0
+      whole = summed (field_demand c.args.layout.table c.args.smr_db.now) (fields_of c.args.layout) l.f l.bits l.invariant.0
           (rw many.whole at c.loop-f-test.false);
       most = omega (arith, many.few);
     }

@@ -1,4 +1,5 @@
 -- `encoder_bit_demand::needed_bits` meets its contract: a ratio of at most 0 needs nothing, and any other the bits of the steps found.
+use mathlib.Core.Path.{◌∙◌}
 use borrow.Author.Rules.{rules}
 use lib.Ieee.{of_bits}
 use Rattle.encoder_bit_demand.proofs.DemandLaws.{nothing, something}
@@ -12,6 +13,6 @@ pub returns : goal.returns
 unfolding of_bits
 returns c =
     record {
-      whole = something _ _ _ _ _ c.if-smr.false c.needed_steps-steps.ensures c.sample_bits_for.ensures.whole;
+      whole = c.from.ensures ∙ something _ _ _ _ _ c.if-smr.false c.needed_steps-steps.ensures c.sample_bits_for.ensures.whole;
       most = search rules;
     }

@@ -5,7 +5,7 @@ use Rattle.encoder_samples.proofs.last_code.Goals as goal
 
 pub returns-then-class : goal.returns-then-class
 unfolding last_code
-returns-then-class c = simp c.if-class.true c.last_step-step.ensures
+returns-then-class c = simp c.if-class.true c.saturating_sub-step.ensures
 
 pub returns-else-class : goal.returns-else-class
 unfolding last_code

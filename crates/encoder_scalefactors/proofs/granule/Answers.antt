@@ -1,27 +1,11 @@
--- `encoder_scalefactors::granule` meets its contract. The loop's invariant: the indices so far.
-use Prim.Native.Nat.{◌<◌}
-use mathlib.Core.Path.{◌≡◌}
-use native.Mathlib.Omega.{arith}
-use lib.ListN.{length, length-set}
+-- `encoder_scalefactors::granule` meets its contract: it lists the index of each subband.
 use borrow.Author.Rules.{rules}
-use Rattle.tables.proofs.Listed.{filled}
-use Rattle.encoder_scalefactors.specs.Indices.{index_at}
-use Rattle.encoder_scalefactors.proofs.IndexLaws.{granule_filled}
+use Rattle.tables.proofs.FromFn.{tabulated_from_fn}
+use Rattle.encoder_scalefactors.specs.Indices.{index_at, granule_of}
 use Rattle.encoder_scalefactors.proofs.granule.Goals as goal
 
-pub loop-sb-preserved : goal.loop-sb-preserved
-loop-sb-preserved c =
-    let l = c.loop-sb in
-    let a = c.args in
-    let h : l.sb < length l.indices = rw l.invariant.1.0 c.loop-sb-test.true in (
-      search rules,
-      (
-        simp length-set l.invariant.1.0,
-        filled (λ k i. i ≡ index_at a.subband_samples.now a.sblimit a.g k) l.indices l.sb _ 0 h l.invariant.1.1 c.index_at.ensures,
-      ),
-    )
-
 pub returns : goal.returns
+unfolding granule_of
 returns c =
-    let l = c.loop-sb in
-    granule_filled _ _ _ l.indices l.invariant.1.0 (λ k h. l.invariant.1.1 k (let t = c.loop-sb-test.false in omega arith))
+    let a = c.args in
+    tabulated_from_fn (index_at a.subband_samples.now a.sblimit a.g) 32 0 _ c.from_fn.ensures.items (λ k y q l m. search rules)

@@ -1,4 +1,6 @@
 -- `encoder_scfsi::named` meets its contract: each return rewrites the definition with the name, or with what the name is not.
+use mathlib.Core.Path.{◌≡◌}
+use native.Mathlib.Omega.{arith}
 use borrow.Author.Tests.{ne_eqb}
 use Rattle.encoder_scfsi.specs.TableC4.{named}
 use Rattle.encoder_scfsi.proofs.named.Goals as goal
@@ -18,5 +20,8 @@ returns-in-3 c = rw c.in-3.is
 pub returns-in_default : goal.returns-in_default
 unfolding named
 returns-in_default c =
-    let m = c.in_default.in_default-own.rest in
-    simp (ne_eqb _ _ m.0.0.1, ne_eqb _ _ m.0.1, ne_eqb _ _ m.1, c.smaller-in_default.ensures, c.smaller.ensures)
+    let n = c.args.name in
+    let one : n ≡ 1 → ⊥ = (λ e. omega arith) in
+    let two : n ≡ 2 → ⊥ = (λ e. omega arith) in
+    let three : n ≡ 3 → ⊥ = (λ e. omega arith) in
+    simp (ne_eqb _ _ one, ne_eqb _ _ two, ne_eqb _ _ three, c.min-in_default.ensures, c.min.ensures)

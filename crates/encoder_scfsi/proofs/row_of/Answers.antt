@@ -4,5 +4,5 @@ use Rattle.encoder_scfsi.proofs.row_of.Goals as goal
 
 pub returns : goal.returns
 returns c =
-    rw (c.table_c4-rows.ensures, c.as_index.ensures.whole, c.as_index-2.ensures.whole)
+    rw (c.table_c4-rows.ensures, c.from.ensures, c.from-2.ensures, c.as_index.ensures.whole, c.as_index-2.ensures.whole)
     (kept_at _ _ _)

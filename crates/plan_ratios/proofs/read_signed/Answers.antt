@@ -1,23 +1,25 @@
 -- `plan_ratios::read_signed` meets its contract.
-use Rattle.std.proofs.Common.{sym, ap, ◌∙◌}
-use mathlib.Core.Option.{map}
+use Rattle.std.proofs.Common.{◌≡◌, sym, ap, ◌∙◌, arith, rules}
+use borrow.Author.Tests.{ltb-true}
+use Rattle.std.specs.Prelude.{option_map}
 use lib.Ieee.{neg}
-use Rattle.plan_ratios.proofs.RatioLaws.{no_sign, minus_sign, plus_sign, other_sign}
+use Rattle.plan_ratios.proofs.RatioLaws.{minus_sign, plus_sign, no_sign, empty}
 use Rattle.plan_ratios.proofs.read_signed.Goals as goal
+use Rattle.plan_ratios.proofs.read_signed.Goals.{in_default-via-then-token-lt1, in_default-via-else-token-lt1+in_default-1}
 
-pub returns-then-token-eq0 : goal.returns-then-token-eq0
-returns-then-token-eq0 c = c.read_unsigned.ensures ∙ sym (no_sign _ c.if-token-eq0.true)
+pub returns-in-45 : goal.returns-in-45
+returns-in-45 c =
+    let m : c.map.result ≡ option_map neg c.read_unsigned.result = search rules in
+    m ∙ ap (option_map neg) c.read_unsigned.ensures ∙ sym (minus_sign _ (omega arith))
 
-pub returns-then-first-eq45 : goal.returns-then-first-eq45
-returns-then-first-eq45 c =
-    c.negated.ensures
-    ∙ ap (map neg) c.read_unsigned-size.ensures
-    ∙ sym (minus_sign _ c.if-token-eq0.false c.if-first-eq45.true)
+pub returns-in-43 : goal.returns-in-43
+returns-in-43 c = c.read_unsigned-in-43.ensures ∙ sym (plus_sign _ (omega arith))
 
-pub returns-then-first-eq43 : goal.returns-then-first-eq43
-returns-then-first-eq43 c =
-    c.read_unsigned-then-first-eq43.ensures ∙ sym (plus_sign _ c.if-token-eq0.false c.if-first-eq43.true)
-
-pub returns : goal.returns
-returns c =
-    c.read_unsigned-2.ensures ∙ sym (other_sign _ c.if-token-eq0.false c.if-first-eq45.false c.if-first-eq43.false)
+pub returns-in_default : goal.returns-in_default
+returns-in_default c =
+    c.read_unsigned-in_default.ensures
+    ∙ sym
+    (elim c.in_default.branch [
+      | in_default-via-then-token-lt1 w ↦ empty c.args.token.now (omega (arith, ltb-true))
+      | in_default-via-else-token-lt1+in_default-1 w ↦ no_sign c.args.token.now (λ e. omega arith) (λ e. omega arith)
+    ])

@@ -2,11 +2,11 @@ use Rattle.std.proofs.Common.{◌≡◌, ◌+◌, ◌-◌, ◌≤◌, length, dr
 use Rattle.plan_ratios.specs.Tokens.{tokens_from}
 use Rattle.plan_ratios.proofs.skip_gap.Given as goal
 
-abbrev pub invariant-loop-at : goal.invariant-loop-at
-invariant-loop-at l = (l.from ≤ l.at)
-    × (l.at ≤ length l.text)
-    × (l.feeds ≤ l.at)
-    × (tokens_from (l.passed + 1) (drop l.from l.text) ≡ tokens_from (l.feeds + 1) (drop l.at l.text))
+abbrev pub invariant-loop-place : goal.invariant-loop-place
+invariant-loop-place l = (l.fn.from.at ≤ l.place.at)
+    × (l.place.at ≤ length l.text)
+    × (l.place.feeds ≤ l.place.at)
+    × (tokens_from (l.fn.from.feeds + 1) (drop l.fn.from.at l.text) ≡ tokens_from (l.place.feeds + 1) (drop l.place.at l.text))
 
-abbrev pub decreases-loop-at : goal.decreases-loop-at
-decreases-loop-at l = length l.text - l.at
+abbrev pub decreases-loop-place : goal.decreases-loop-place
+decreases-loop-place l = length l.text - l.place.at

@@ -1,26 +1,14 @@
 -- `plan_ratios::token_end` meets its contract.
-use Rattle.std.proofs.Common.{sym, refl, ◌∙◌, arith}
-use Rattle.plan_text.proofs.ByteLaws.{reach_at, reach_past, reach_end}
+use Rattle.std.proofs.Common.{ℕ, ◌+◌, drop, ap, sym, arith, length-drop}
+use Rattle.plan_text.proofs.ByteLaws.{reach_some, reach_none}
 use Rattle.plan_ratios.specs.Walk.{is_end}
 use Rattle.plan_ratios.proofs.token_end.Goals as goal
 
-pub loop-i-init : goal.loop-i-init
-loop-i-init c = refl
+pub returns-in-Some : goal.returns-in-Some
+returns-in-Some c = ap (λ (n : ℕ). c.args.from + n) (sym (reach_some is_end (drop c.args.from c.args.text.now) _ c.in-Some.ensures))
 
-pub returns-then-is_end : goal.returns-then-is_end
-returns-then-is_end c =
-    let t = c.args.text.now in
-    omega (
-      arith,
-      c.loop-i.invariant,
-      reach_at is_end t c.loop-i.i c.loop-i-test.true (sym c.is_end.ensures ∙ c.if-is_end.true),
-    )
-
-pub loop-i-preserved : goal.loop-i-preserved
-loop-i-preserved c =
-    c.loop-i.invariant
-    ∙ reach_past is_end _ _ c.loop-i-test.true (sym c.is_end.ensures ∙ c.if-is_end.false)
-
-pub returns : goal.returns
-returns c =
-    omega (arith, c.loop-i.invariant, reach_end is_end c.args.text.now c.loop-i.i c.loop-i-test.false)
+pub returns-in-None : goal.returns-in-None
+returns-in-None c =
+    let e = reach_none is_end (drop c.args.from c.args.text.now) c.in-None.ensures in
+    let l = length-drop c.args.from c.args.text.now in
+    omega (arith, c.max.ensures)

@@ -1,48 +1,13 @@
 -- `plan_words::read_word` meets its contract.
-use mathlib.Core.Path.{sym, ◌∙◌}
-use Rattle.plan_words.specs.Word.{mode_words, lookup, meaning}
+use Rattle.std.proofs.Common.{ap₂, refl, ◌++◌, ◌∙◌}
+use Rattle.std.specs.Option.{option_or}
+use Rattle.plan_words.specs.Word.{mode_words, bound_words, flag_words, meaning}
+use Rattle.plan_words.proofs.NamedLaws.{found}
 use Rattle.plan_words.proofs.read_word.Goals as goal
 
-pub returns-then-same : goal.returns-then-same
-unfolding meaning lookup mode_words
-returns-then-same c =
-    rw
-    (sym c.same.ensures ∙ c.if-same.true)
-
-pub returns-then-same-2 : goal.returns-then-same-2
-unfolding meaning lookup mode_words
-returns-then-same-2 c =
-    rw (
-      sym c.same.ensures ∙ c.if-same.false,
-      sym c.same-2.ensures ∙ c.if-same-2.true,
-    )
-
-pub returns-then-same-3 : goal.returns-then-same-3
-unfolding meaning lookup mode_words
-returns-then-same-3 c =
-    rw (
-      sym c.same.ensures ∙ c.if-same.false,
-      sym c.same-2.ensures ∙ c.if-same-2.false,
-      sym c.same-3.ensures ∙ c.if-same-3.true,
-    )
-
-pub returns-then-same-4 : goal.returns-then-same-4
-unfolding meaning lookup mode_words
-returns-then-same-4 c =
-    rw (
-      sym c.same.ensures ∙ c.if-same.false,
-      sym c.same-2.ensures ∙ c.if-same-2.false,
-      sym c.same-3.ensures ∙ c.if-same-3.false,
-      sym c.same-4.ensures ∙ c.if-same-4.true,
-    )
-
 pub returns : goal.returns
-unfolding meaning lookup mode_words
+unfolding meaning mode_words bound_words flag_words
 returns c =
-    rw (
-      sym c.same.ensures ∙ c.if-same.false,
-      sym c.same-2.ensures ∙ c.if-same-2.false,
-      sym c.same-3.ensures ∙ c.if-same-3.false,
-      sym c.same-4.ensures ∙ c.if-same-4.false,
-    )
-    c.bound_word.ensures
+    c.or.ensures
+    ∙ ap₂ option_or c.look_up.ensures c.number_word.ensures
+    ∙ found _ _ _ (mode_words ++ bound_words ++ flag_words) refl

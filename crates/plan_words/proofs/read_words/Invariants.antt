@@ -1,6 +1,4 @@
-use mathlib.Core.Path.{◌≡◌}
-use Prim.Native.Nat.{◌-◌}
-use lib.ListN.{length}
+use Rattle.std.proofs.Common.{◌≡◌, ◌-◌, length}
 use Rattle.plan_words.specs.Line.{settled, words_of}
 use Rattle.plan_words.proofs.LineLaws.{words_from}
 use Rattle.plan_words.proofs.read_words.Given as goal

@@ -1,17 +1,12 @@
 -- `plan_words::value_after` meets its contract.
-use mathlib.Core.Path.{sym, ◌∙◌}
-use lib.Seq.{length-take-le}
-use Rattle.plan_words.proofs.WordLaws.{too_short, behind_key, other_key}
+use Rattle.plan_text.proofs.ByteLaws.{same_is}
+use Rattle.plan_words.specs.Word.{value_after}
 use Rattle.plan_words.proofs.value_after.Goals as goal
 
-pub returns-then-word-start : goal.returns-then-word-start
-returns-then-word-start c = sym (too_short _ _ c.if-word-start.true)
-
-pub slice_bounds-same-end : goal.slice_bounds-same-end
-slice_bounds-same-end c = sym (length-take-le _ _ c.if-word-start.false)
-
-pub returns-then-same : goal.returns-then-same
-returns-then-same c = c.read_number.ensures ∙ sym (behind_key _ _ (sym c.same.ensures ∙ c.if-same.true))
+pub returns-in_err-strip_prefix : goal.returns-in_err-strip_prefix
+unfolding value_after
+returns-in_err-strip_prefix c = rw (same_is, c.in_err-strip_prefix.ensures.cases) c.from_residual.ensures
 
 pub returns : goal.returns
-returns c = sym (other_key _ _ (sym c.same.ensures ∙ c.if-same.false))
+unfolding value_after
+returns c = rw (same_is, c.in_ok-strip_prefix.ensures.cases.0, ← c.in_ok-strip_prefix.ensures.cases.1) c.read_number.ensures

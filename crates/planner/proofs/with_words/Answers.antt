@@ -1,12 +1,12 @@
 -- `planner::with_words` meets its contract.
 use Rattle.text_line.proofs.PageLaws.{moved}
-use Rattle.planner.proofs.PlanLaws.{good_words, bad_words}
+use Rattle.planner.proofs.PlanLaws.{good_ratios, bad_ratios}
 use Rattle.planner.proofs.with_words.Goals as goal
 
-pub returns-then-accepted : goal.returns-then-accepted
-returns-then-accepted c =
-    moved (good_words _ _ _ _ c.accepted.ensures c.if-accepted.true _ _ c.slots_for.ensures c.read_ratios-ratios.ensures) c.with_ratios.ensures
+pub returns-in-Ok : goal.returns-in-Ok
+returns-in-Ok c =
+    moved (good_ratios c.args.words c.args.input.now _ c.slots_for-wanted.ensures _ c.in-Ok.ensures _ c.rows.ensures) c.page_line.ensures
 
-pub returns-else-accepted : goal.returns-else-accepted
-returns-else-accepted c =
-    moved (bad_words _ _ _ _ _ c.accepted.ensures c.if-accepted.false c.words_line.ensures) c.only.ensures
+pub returns-in-Err : goal.returns-in-Err
+returns-in-Err c =
+    moved (bad_ratios c.args.words c.args.input.now _ c.slots_for-wanted.ensures _ c.in-Err.ensures _ c.ratios_line.ensures) c.only.ensures

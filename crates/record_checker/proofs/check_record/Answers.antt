@@ -9,6 +9,6 @@ pub returns-in-Ok : goal.returns-in-Ok
 returns-in-Ok c =
     promises _ _ _ (from_accepted _ _ c.in-Ok.b _ _ (ap budget_in (sym c.in-Ok.is) ∙ c.fixed_bit_budget-budget.ensures.whole) c.layout.ensures c.check_under.ensures)
 
-pub returns-in-Refused : goal.returns-in-Refused
-returns-in-Refused c =
-    promises _ _ _ (from_refused _ _ c.in-Refused.error _ (ap budget_in (sym c.in-Refused.is) ∙ c.fixed_bit_budget-budget.ensures.whole) c.number.ensures)
+pub returns-in-Err : goal.returns-in-Err
+returns-in-Err c =
+    promises _ _ _ (from_refused _ _ c.in-Err.error _ (ap budget_in (sym c.in-Err.is) ∙ c.fixed_bit_budget-budget.ensures.whole) c.number.ensures)

@@ -1,19 +1,13 @@
-use Prim.Native.Nat.{◌-◌, ◌≤◌}
-use mathlib.Core.List.{flat_map}
+use mathlib.Core.List.{◌++◌, flat_map}
+use mathlib.Core.Path.{◌≡◌}
 use lib.ListN.{drop}
 use Rattle.layout.specs.Layout.{fields_of}
 use Rattle.side_info.specs.SideInfo.{allocation_field_bits}
 use Rattle.side_info_writer.specs.OnTheWay.{steps_alone}
-use Rattle.side_info_writer.proofs.PartLaws.{Partly}
 use Rattle.side_info_writer.proofs.AskedLaws.{PassedTo}
 use Rattle.side_info_writer.proofs.write_allocation.Given as goal
 
 abbrev pub invariant-loop-f : goal.invariant-loop-f
-invariant-loop-f l = (l.f ≤ l.fields)
-    × PassedTo l.layout l.nb_steps l.f
-    × Partly (record { at = 0; held = 0; count = 0 }) l.initial.bytes l.pen l.bytes
-    (flat_map (allocation_field_bits l.layout (steps_alone l.nb_steps)) (drop l.f (fields_of l.layout)))
-    (flat_map (allocation_field_bits l.layout (steps_alone l.nb_steps)) (fields_of l.layout))
-
-abbrev pub decreases-loop-f : goal.decreases-loop-f
-decreases-loop-f l = l.fields - l.f
+invariant-loop-f l = PassedTo l.layout l.nb_steps l.f
+    × (l.writer ++ flat_map (allocation_field_bits l.layout (steps_alone l.nb_steps)) (drop l.f (fields_of l.layout))
+    ≡ l.initial.writer ++ flat_map (allocation_field_bits l.layout (steps_alone l.nb_steps)) (fields_of l.layout))

@@ -1,13 +1,10 @@
-use Prim.Native.Nat.{◌-◌, ◌≤◌}
-use mathlib.Core.List.{[], flat_map}
-use lib.ListN.{take, drop}
+use mathlib.Core.List.{[], ◌++◌, flat_map}
+use mathlib.Core.Path.{◌≡◌}
+use lib.ListN.{drop}
 use Rattle.side_info.specs.SideInfo.{side_info, scfsi_bits}
-use Rattle.side_info_writer.proofs.PartLaws.{Partly}
 use Rattle.side_info_writer.proofs.write_scfsi.Given as goal
 
-abbrev pub invariant-loop-k : goal.invariant-loop-k
-invariant-loop-k l = (l.k ≤ l.count)
-    × Partly l.initial.pen l.initial.bytes l.pen l.bytes (flat_map (scfsi_bits (side_info [] l.scfsi [])) (drop l.k (take l.count l.slots))) (flat_map (scfsi_bits (side_info [] l.scfsi [])) (take l.count l.slots))
-
-abbrev pub decreases-loop-k : goal.decreases-loop-k
-decreases-loop-k l = l.count - l.k
+abbrev pub invariant-loop-slot : goal.invariant-loop-slot
+invariant-loop-slot l =
+    l.writer ++ flat_map (scfsi_bits (side_info [] l.scfsi [])) (drop l.slot-index (l.slot-items))
+    ≡ l.initial.writer ++ flat_map (scfsi_bits (side_info [] l.scfsi [])) (l.slot-items)

@@ -11,5 +11,5 @@ pub returns : goal.returns
 unfolding row_start
 returns c =
     let t = text_of c.new.result in
-    more t _ _ (more t _ _ (more t _ _ c.number_in.ensures c.number_in-place.ensures) c.number_in-2.ensures) c.number_in-3.ensures
+    more t _ _ (more t _ _ (more t _ _ c.number_in.ensures c.number_in-2.ensures) c.number_in-3.ensures) c.number_in-4.ensures
     ∙ ap (λ (l : List ℕ). cut (l ++ row_start c.args.slot c.args.nb_steps c.args.code)) c.new.ensures

@@ -3,6 +3,3 @@ use Rattle.side_rows.proofs.spelled.Given as goal
 
 abbrev pub invariant-loop-i : goal.invariant-loop-i
 invariant-loop-i l = Spelling l.n l.digits l.rest l.i
-
-abbrev pub decreases-loop-i : goal.decreases-loop-i
-decreases-loop-i l = l.i

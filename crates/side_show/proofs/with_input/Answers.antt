@@ -1,22 +1,31 @@
 -- `side_show::with_input` meets its contract.
-use Rattle.text_line.proofs.PageLaws.{moved}
-use Rattle.side_show.proofs.SideLaws.{input_too_long, good_digits, wrong_digit, digit_over}
+use mathlib.Core.Path.{ap, ap₂, ◌∙◌}
 use borrow.Author.Rules.{rules}
+use Rattle.std.specs.Prelude.{Err}
+use Rattle.text_line.proofs.PageLaws.{moved}
+use Rattle.side_show.specs.Notes.{wrong_character_text, odd_digits_text}
+use Rattle.side_show.proofs.SideLaws.{input_too_long, good_digits, wrong_digit, digit_over}
 use Rattle.side_show.proofs.with_input.Goals as goal
 
 pub returns-then-input-ge65536 : goal.returns-then-input-ge65536
 returns-then-input-ge65536 c = moved (input_too_long _ _ _ c.if-input-ge65536.true c.long_input.ensures) c.only.ensures
 
-pub returns-in-Accepted : goal.returns-in-Accepted
-returns-in-Accepted c =
-    moved (good_digits _ _ c.if-input-ge65536.false _ _ c.read_hex-read.ensures (search rules) c.in-Accepted.is) c.with_bytes.ensures
+pub returns-in-Ok : goal.returns-in-Ok
+returns-in-Ok c =
+    moved (good_digits _ _ c.if-input-ge65536.false _ _ c.read_hex.ensures (search rules) _ c.in-Ok.is) c.with_bytes.ensures
 
-pub returns-in-WrongCharacter : goal.returns-in-WrongCharacter
-returns-in-WrongCharacter c =
-    moved (wrong_digit _ _ c.if-input-ge65536.false _ _ c.read_hex-read.ensures _ c.in-WrongCharacter.is c.wrong_character.ensures)
-    c.only-in-WrongCharacter.ensures
+pub returns-in-Err-WrongCharacter : goal.returns-in-Err-WrongCharacter
+returns-in-Err-WrongCharacter c =
+    let k = c.in-Err-WrongCharacter in
+    moved
+    (wrong_digit _ _ c.if-input-ge65536.false _ _ c.read_hex.ensures _ _ _ (k.is ∙ ap Err k.field-0-is)
+    (c.wrong_character.ensures ∙ ap₂ wrong_character_text k.line-is k.column-is))
+    c.only-in-Err-WrongCharacter.ensures
 
-pub returns-in-OddDigits : goal.returns-in-OddDigits
-returns-in-OddDigits c =
-    moved (digit_over _ _ c.if-input-ge65536.false _ _ c.read_hex-read.ensures _ c.in-OddDigits.is c.odd_digits.ensures)
-    c.only-in-OddDigits.ensures
+pub returns-in-Err-OddDigits : goal.returns-in-Err-OddDigits
+returns-in-Err-OddDigits c =
+    let k = c.in-Err-OddDigits in
+    moved
+    (digit_over _ _ c.if-input-ge65536.false _ _ c.read_hex.ensures _ _ (k.is ∙ ap Err k.field-0-is)
+    (c.odd_digits.ensures ∙ ap odd_digits_text k.line-is))
+    c.only-in-Err-OddDigits.ensures

@@ -1,7 +1,6 @@
 -- `table_selection::select_table` meets its contract: each of the ways to a table is the definition's.
+use Rattle.std.specs.Prelude.{None}
 use mathlib.Core.Path.{sym, ap, ◌∙◌}
-use mathlib.Core.Option.{none}
-use Rattle.bitalloc.specs.Options.{number_in}
 use Rattle.table_selection.proofs.SelectLaws.{of_lsf, of_free, of_rate, no_kbps}
 use Rattle.table_selection.proofs.select_table.Goals as goal
 
@@ -15,12 +14,12 @@ returns-then-is_free_format c =
 
 pub returns-in_default : goal.returns-in_default
 returns-in_default c =
-    let missing = sym c.bitrate_per_channel_kbps-per_channel.ensures ∙ ap number_in c.in_default.is in
+    let missing = sym c.bitrate_per_channel_kbps-per_channel.ensures ∙ c.in_default.is in
     sym
-    (of_rate _ c.if-header.false (sym c.is_free_format.ensures ∙ c.if-is_free_format.false) none missing ∙ no_kbps _)
+    (of_rate _ c.if-header.false (sym c.is_free_format.ensures ∙ c.if-is_free_format.false) None missing ∙ no_kbps _)
 
 pub returns : goal.returns
 returns c =
-    let there = sym c.bitrate_per_channel_kbps-per_channel.ensures ∙ ap number_in c.in-Some.is in
+    let there = sym c.bitrate_per_channel_kbps-per_channel.ensures ∙ c.in-Some.is in
     c.table_for.ensures
     ∙ sym (of_rate _ c.if-header.false (sym c.is_free_format.ensures ∙ c.if-is_free_format.false) _ there)

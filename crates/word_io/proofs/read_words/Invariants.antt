@@ -3,7 +3,4 @@ use Rattle.word_io.proofs.WordLaws.{ReadSoFar}
 use Rattle.word_io.proofs.read_words.Given as goal
 
 abbrev pub invariant-loop-i : goal.invariant-loop-i
-invariant-loop-i g l = ReadSoFar l.initial.words l.words l.at l.i × (l.i - 1 ≤ l.count - 1)
-
-abbrev pub decreases-loop-i : goal.decreases-loop-i
-decreases-loop-i g l = l.count - l.i
+invariant-loop-i g l = ReadSoFar l.initial.words l.words l.at l.i × (l.i - 1 ≤ l.fn.count - 1)

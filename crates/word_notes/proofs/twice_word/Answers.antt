@@ -9,5 +9,5 @@ pub returns : goal.returns
 unfolding twice_text
 returns c =
     let t = text_of c.new.result in
-    alone _ c.new.ensures (more t _ _ (more t _ _ c.text.ensures c.with_excerpt.ensures) c.text-2.ensures)
-    (twice_length c.args.words.now c.args.at c.args.end)
+    alone _ c.new.ensures (more t _ _ (more t _ _ c.text.ensures c.with_excerpt-line.ensures) c.text-2.ensures)
+    (twice_length c.args.words.now c.args.place)

@@ -10,4 +10,4 @@ unfolding unknown_text
 returns c =
     let t = text_of c.new.result in
     alone _ c.new.ensures (more t _ _ (more t _ _ c.text.ensures c.with_excerpt-line.ensures) c.text-2.ensures)
-    (unknown_length c.args.words.now c.args.at c.args.end)
+    (unknown_length c.args.words.now c.args.place)

@@ -11,4 +11,4 @@ returns c =
     let args = c.args in
     c.text.ensures
     ∙ ap (λ (u : List ℕ). cut (text_of args.line ++ u))
-    (excerpt_is args.words.now args.at args.end _ _ _ c.least-last.ensures c.least-start.ensures c.least.ensures)
+    (excerpt_is args.words.now args.place _ _ _ c.min-last.ensures c.min-start.ensures c.min.ensures)

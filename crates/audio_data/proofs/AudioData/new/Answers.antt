@@ -1,7 +1,7 @@
--- `audio_data::AudioData::new` meets its contract: the record is the definition's, with the sblimit that the table's method ensures.
-use Rattle.audio_data.specs.Record.{fresh}
+-- `audio_data::AudioData::new` meets its contract: the layout's parts, and the rest as beside a refusal.
+use Rattle.audio_data.specs.Record.{fresh, filler}
 use Rattle.audio_data.proofs.AudioData.new.Goals as goal
 
 pub returns : goal.returns
-unfolding fresh
-returns c = rw c.sblimit.ensures.whole
+unfolding fresh filler
+returns c = rw (c.sblimit.ensures.whole, c.filler.ensures)

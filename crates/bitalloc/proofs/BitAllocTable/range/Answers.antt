@@ -7,7 +7,7 @@ pub overflow_sub-compared : goal.overflow_sub-compared
 overflow_sub-compared c = rw c.ends.ensures (ends_small c.args.self)
 
 pub overflow_mul-result : goal.overflow_mul-result
-overflow_mul-result c = record { fits = sum_fits ((c.smaller-sb_or_32.result * 16843009 + (2155905152 - c.ends.result)) / 2 ^ 7) }
+overflow_mul-result c = record { fits = sum_fits ((c.min-sb_or_32.result * 16843009 + (2155905152 - c.ends.result)) / 2 ^ 7) }
 
 pub returns : goal.returns
-returns c = range_is c.args.self c.args.sb _ _ c.smaller-sb_or_32.ensures c.ends.ensures
+returns c = range_is c.args.self c.args.sb _ _ c.min-sb_or_32.ensures c.ends.ensures

@@ -8,8 +8,7 @@ use Rattle.bitalloc.proofs.kept_rows.nbal.Goals as goal
 
 pub returns-in_default : goal.returns-in_default
 returns-in_default c =
-    let m = c.in_default.in_default-own.rest in
     record {
-      whole = sym (get_or-eq_default nbals 0 {n = c.args.range} (omega (arith, m.0.0.0.1, m.0.0.1, m.0.1, m.1)));
+      whole = sym (get_or-eq_default nbals 0 {n = c.args.range} (omega arith));
       small = search rules;
     }

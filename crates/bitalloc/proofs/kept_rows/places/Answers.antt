@@ -26,8 +26,7 @@ returns-in-3 c = record { whole = rw c.in-3.is; most = search rules }
 
 pub returns-in_default : goal.returns-in_default
 returns-in_default c =
-    let m = c.in_default.in_default-own.rest in
     record {
-      whole = ap length (sym (none_kept (2 * c.args.range) (omega (arith, m.0.0.0.1, m.0.0.1, m.0.1, m.1))));
+      whole = ap length (sym (none_kept (2 * c.args.range) (omega arith)));
       most = search rules;
     }

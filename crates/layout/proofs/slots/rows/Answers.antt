@@ -1,6 +1,7 @@
 -- `layout::slots::rows` meets its contract: it is its two rows.
-use Rattle.layout.proofs.SlotLaws.{both_rows}
+use Rattle.layout.specs.Slots.{smr_rows}
 use Rattle.layout.proofs.slots.rows.Goals as goal
 
 pub returns : goal.returns
-returns c = both_rows _ _ _ c.row-first.ensures c.row-second.ensures
+unfolding smr_rows
+returns c = rw (c.row.ensures, c.row-2.ensures)

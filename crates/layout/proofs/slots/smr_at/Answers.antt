@@ -1,9 +1,10 @@
--- `layout::slots::smr_at` meets its contract: past the end of a list stands what is asked for there.
-use mathlib.Core.Path.{sym}
-use lib.Ieee.{nan, div, of_bits}
-use lib.ListN.{get_or-eq_default}
+-- `layout::slots::smr_at` meets its contract: past the end of the list there is none.
+use mathlib.Core.Path.{ap, ◌∙◌}
+use native.Mathlib.Nat.{le_refl}
+use lib.Ieee.{nan, of_bits}
+use Rattle.std.specs.Option.{unwrap_or}
 use Rattle.layout.proofs.slots.smr_at.Goals as goal
 
-pub returns-else-slot-by_slot : goal.returns-else-slot-by_slot
-unfolding div of_bits
-returns-else-slot-by_slot c = sym (get_or-eq_default c.args.by_slot.now nan c.if-slot-by_slot.false)
+pub returns : goal.returns
+unfolding of_bits
+returns c = c.unwrap_or.ensures ∙ ap (λ o. unwrap_or o nan) c.copied.ensures ∙ c.get.ensures.lookup.4 (le_refl c.args.slot) nan

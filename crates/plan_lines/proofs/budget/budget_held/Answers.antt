@@ -9,6 +9,6 @@ returns-in-Ok c =
     let asked = c.budget-budget.ensures in
     record { whole = ap (λ (a : BudgetAnswer). a.budget) (ap budget_in (sym c.in-Ok.is) ∙ asked.whole); few = (asked.bounded c.in-Ok.b c.in-Ok.is).sblimit }
 
-pub returns-in-Refused : goal.returns-in-Refused
-returns-in-Refused c =
-    none_held _ c.in-Refused.field-0 _ (ap budget_in (sym c.in-Refused.is) ∙ c.budget-budget.ensures.whole) c.no_budget.ensures
+pub returns-in-Err : goal.returns-in-Err
+returns-in-Err c =
+    none_held _ c.in-Err.field-0 _ (ap budget_in (sym c.in-Err.is) ∙ c.budget-budget.ensures.whole) c.no_budget.ensures

@@ -1,5 +1,8 @@
 -- `plan_lines::lines::frame_line` meets its contract.
-use Rattle.text_line.specs.Line.{text_of}
+use mathlib.Core.Path.{ap, ◌∙◌}
+use mathlib.Core.List.{List, ◌++◌}
+use Prim.Native.Nat.{ℕ}
+use Rattle.text_line.specs.Line.{text_of, cut}
 use Rattle.text_line.proofs.LineLaws.{more, alone}
 use Rattle.plan_lines.specs.Lines.{frame_line}
 use Rattle.plan_lines.proofs.Lengths.{frame_length}
@@ -9,6 +12,7 @@ pub returns : goal.returns
 unfolding frame_line
 returns c =
     let t = text_of c.new.result in
+    let table = c.text-line.ensures ∙ ap (λ (n : List ℕ). cut (text_of c.text-2.result ++ n)) c.table_name.ensures in
     alone _ c.new.ensures
-    (more t _ _ (more t _ _ (more t _ _ (more t _ _ c.text.ensures c.number_in.ensures) c.text-line.ensures) c.table_name.ensures) c.limits.ensures)
+    (more t _ _ (more t _ _ (more t _ _ (more t _ _ c.text.ensures c.number_in.ensures) c.text-2.ensures) table) c.limits.ensures)
     (frame_length c.args.b)

@@ -1,5 +1,8 @@
 -- `plan_lines::lines::free_line` meets its contract.
-use Rattle.text_line.specs.Line.{text_of}
+use mathlib.Core.Path.{ap, ◌∙◌}
+use mathlib.Core.List.{List, ◌++◌}
+use Prim.Native.Nat.{ℕ}
+use Rattle.text_line.specs.Line.{text_of, cut}
 use Rattle.text_line.proofs.LineLaws.{more, alone}
 use Rattle.plan_lines.specs.Lines.{free_line}
 use Rattle.plan_lines.proofs.Lengths.{free_length}
@@ -9,4 +12,5 @@ pub returns : goal.returns
 unfolding free_line
 returns c =
     let t = text_of c.new.result in
-    alone _ c.new.ensures (more t _ _ (more t _ _ c.text-line.ensures c.table_name.ensures) c.limits.ensures) (free_length c.args.b)
+    let table = c.text-line.ensures ∙ ap (λ (n : List ℕ). cut (text_of c.text.result ++ n)) c.table_name.ensures in
+    alone _ c.new.ensures (more t _ _ (more t _ _ c.text.ensures table) c.limits.ensures) (free_length c.args.b)

@@ -6,4 +6,4 @@ use Rattle.plan_lines.proofs.refusal.no_table.Goals as goal
 
 pub returns : goal.returns
 unfolding no_table_text
-returns c = more (text_of c.args.line) _ _ c.text-asked.ensures c.text.ensures
+returns c = more (text_of c.args.line) _ _ c.text.ensures c.text-2.ensures

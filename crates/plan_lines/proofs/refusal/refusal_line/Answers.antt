@@ -10,4 +10,4 @@ unfolding refusal_line
 returns c =
     let t = text_of c.new.result in
     alone _ c.new.ensures (more t _ _ (more t _ _ (more t _ _ c.text.ensures c.number.ensures) c.text-line.ensures) c.reason.ensures)
-    (refusal_length c.args.header c.args.number c.args.cb c.args.fixed c.args.banc)
+    (refusal_length c.args.header c.args.refusal.number c.args.refusal.cb c.args.refusal.fixed c.args.refusal.banc)

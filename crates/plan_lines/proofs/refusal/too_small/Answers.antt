@@ -9,5 +9,5 @@ unfolding too_small_text
 returns c =
     let t = text_of c.args.line in
     let one = more t _ _ c.text.ensures c.number.ensures in
-    let two = more t _ _ (more t _ _ one c.text-2.ensures) c.number-has.ensures in
-    more t _ _ (more t _ _ (more t _ _ two c.text-3.ensures) c.number-2.ensures) c.text-4.ensures
+    let two = more t _ _ (more t _ _ one c.text-2.ensures) c.number-2.ensures in
+    more t _ _ (more t _ _ (more t _ _ two c.text-3.ensures) c.number-3.ensures) c.text-4.ensures

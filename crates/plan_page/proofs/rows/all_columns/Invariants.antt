@@ -1,4 +1,3 @@
-use Prim.Native.Nat.{◌-◌, ◌≤◌}
 use mathlib.Core.Path.{◌≡◌}
 use mathlib.Core.List.{◌++◌}
 use Rattle.plan_text.specs.Quoted.{text}
@@ -6,8 +5,5 @@ use Rattle.text_line.specs.Line.{text_of, cut}
 use Rattle.plan_page.specs.Rows.{joined, column_heads}
 use Rattle.plan_page.proofs.rows.all_columns.Given as goal
 
-abbrev pub invariant-loop-ch : goal.invariant-loop-ch
-invariant-loop-ch l = (l.ch ≤ l.channels) × (text_of l.line ≡ cut (text "subband |" ++ joined (λ ch. column_heads) l.ch))
-
-abbrev pub decreases-loop-ch : goal.decreases-loop-ch
-decreases-loop-ch l = l.channels - l.ch
+abbrev pub invariant-loop : goal.invariant-loop
+invariant-loop l = text_of l.line ≡ cut (text "subband |" ++ joined (λ ch. column_heads) l.counter)

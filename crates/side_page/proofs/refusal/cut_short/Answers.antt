@@ -9,4 +9,4 @@ pub returns : goal.returns
 unfolding cut_short_text
 returns c =
     let t = text_of c.new.result in
-    alone _ c.new.ensures (more t _ _ (more t _ _ c.text.ensures c.number-line.ensures) c.text-2.ensures) (cut_short_length c.args.given)
+    alone _ c.new.ensures (more t _ _ (more t _ _ c.text.ensures c.number.ensures) c.text-2.ensures) (cut_short_length c.args.given)

@@ -1,5 +1,6 @@
 -- `side_page::refusal::refused_line` meets its contract.
 use borrow.Author.Tests.{ne_eqb}
+use native.Mathlib.Omega.{arith}
 use Rattle.side_page.specs.Page.{refused_line}
 use Rattle.side_page.proofs.refusal.refused_line.Goals as goal
 
@@ -14,5 +15,5 @@ returns-in-10 c = rw c.in-10.is c.reserved.ensures
 pub returns-in_default : goal.returns-in_default
 unfolding refused_line
 returns-in_default c =
-    let off = c.in_default.in_default-own.rest in
-    rw (ne_eqb _ 9 off.0.1, ne_eqb _ 10 off.1) c.refusal_line.ensures
+    let n = c.args.number in
+    rw (ne_eqb n 9 (omega arith), ne_eqb n 10 (omega arith)) c.refusal_line.ensures

@@ -1,0 +1,15 @@
+-- `text_line::decibels::Line::decibels_in` meets its contract.
+use mathlib.Core.Path.{ap, ◌∙◌}
+use mathlib.Core.List.{List, ◌++◌}
+use Prim.Native.Nat.{ℕ}
+use native.Mathlib.Omega.{arith}
+use Rattle.text_line.specs.Line.{text_of, cut, aligned}
+use Rattle.text_line.proofs.LineLaws.{alone}
+use Rattle.text_line.proofs.DecibelsLaws.{short_decibels}
+use Rattle.text_line.proofs.decibels.Line.decibels_in.Goals as goal
+
+pub returns : goal.returns
+returns c =
+    c.aligned.ensures
+    ∙ ap (λ (t : List ℕ). cut (text_of c.args.self ++ aligned c.args.width t))
+    (alone _ c.new.ensures c.decibels.ensures (let h = short_decibels c.args.x in omega arith))

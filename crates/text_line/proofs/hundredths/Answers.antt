@@ -1,8 +1,0 @@
--- `text_line::hundredths` meets its contract.
-use lib.Ieee.{of_bits}
-use Rattle.text_line.specs.Decibels.{hundredths_of}
-use Rattle.text_line.proofs.hundredths.Goals as goal
-
-pub returns : goal.returns
-unfolding hundredths_of of_bits
-returns c = c.nearest_whole.ensures.whole

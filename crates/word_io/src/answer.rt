@@ -1,0 +1,75 @@
+// What a program answers, and how it is written, line by line.
+ghost use Rattle.std.specs.Prelude.{◌≡◌, ℕ, List, take, IsOk, OnOk};
+ghost use Rattle.std.specs.Io.KnownBytes.{Appends};
+ghost use Rattle.text_line.specs.Line.{text_of, fed};
+ghost use Rattle.text_line.specs.Page.{LineAt};
+ghost use Rattle.word_io.specs.Written.{lines_in, page_text, Written};
+
+use std::env::Env;
+use std::io;
+use std::io::Write;
+use text_line::Line;
+
+// What a program answers to the words of its command line and its input: a page, whose lines can be asked for one by one.
+pub trait Answer {
+    ghost page: { List ℕ → List ℕ → List (List ℕ) };
+
+    // The line of a number, counted from 0, where there is one.
+    fn line(&self, words: &[u8], input: &[u8], n: usize) -> Option<Line>
+        ensures { LineAt (page words.now input.now) n result };
+}
+
+// Reads, answers and writes, and answers how many lines the answer has. Where reading or writing fails it goes on, and `outcome` is the last error.
+pub fn run<A: Answer, R: Env + Input + Print>(
+    answer: &A,
+    rt: &R,
+    outcome: &mut io::Result<()>,
+) -> usize
+    ensures written { Written A.page result }
+    ensures kept { OnOk outcome.new (IsOk outcome.old) }
+{
+    let mut words = [0u8; 4096];
+    let size = crate::read_words(rt, crate::word_count(rt), &mut words);
+    let mut input = [0u8; 65_536];
+    let count = crate::read_input(rt, &words[..size], &mut input, outcome);
+    write_answer(
+        answer,
+        &words[..size],
+        &input[..count],
+        &mut io::writer(rt),
+        outcome,
+    )
+}
+
+// Writes the answer line by line, and answers how many there were. A proved loop has to end: lines are counted as far as 64 bits count.
+// Where no write failed, what was written is the answer's text.
+pub fn write_answer<A: Answer, W: Write>(
+    answer: &A,
+    words: &[u8],
+    input: &[u8],
+    out: &mut W,
+    outcome: &mut io::Result<()>,
+) -> usize
+    ensures lines { result ≡ lines_in (A.page words.now input.now) }
+    ensures kept { OnOk outcome.new (IsOk outcome.old) }
+    ensures text { OnOk outcome.new (Appends (W.contents out.old) (W.contents out.new)
+        (page_text (take result (A.page words.now input.now)))) }
+{
+    for n in 0..usize::MAX {
+        match answer.line(words, input, n) {
+            Some(line) => write_line(line, out, outcome),
+            None => return n,
+        }
+    }
+    usize::MAX
+}
+
+// Writes a line, with its line feed. Where that fails, `outcome` is the error.
+fn write_line<W: Write>(line: Line, out: &mut W, outcome: &mut io::Result<()>)
+    ensures kept { OnOk outcome.new (IsOk outcome.old) }
+    ensures text { OnOk outcome.new (Appends (W.contents out.old) (W.contents out.new) (fed (text_of line))) }
+{
+    if let Err(e) = out.write_all(line.ended().as_bytes()) {
+        *outcome = Err(e);
+    }
+}

@@ -1,7 +1,0 @@
--- `word_notes::no_sample_rate` meets its contract.
-use lib.Dec.{lit≤}
-use Rattle.text_line.proofs.LineLaws.{alone}
-use Rattle.word_notes.proofs.no_sample_rate.Goals as goal
-
-pub returns : goal.returns
-returns c = alone _ c.new.ensures c.text.ensures (lit≤ tt)
