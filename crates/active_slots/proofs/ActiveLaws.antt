@@ -15,17 +15,18 @@ use Rattle.layout.specs.declared.Layout.{Layout}
 use Rattle.layout.specs.Layout.{slots_of}
 use Rattle.layout.proofs.WireLaws.{few_slots}
 use Rattle.side_info.specs.SideInfo.{active_among, active_slots}
-use Rattle.active_slots.specs.declared.ActiveSlots.{ActiveSlots}
-use Rattle.active_slots.specs.Active.{listed, SlotsIn, ActiveAre}
+use Rattle.active_slots.specs.declared.slots.ActiveSlots.{ActiveSlots}
+use Rattle.active_slots.specs.Slots.{SlotsIn}
+use Rattle.active_slots.specs.Active.{listed}
 
 -- ---- for the loops over them
 
-module _ (a : ActiveSlots) (s : SlotsIn a) where
+module _ (a : ActiveSlots) where
   pub listed_long : length (listed a) ≡ a.count
-  listed_long = length-take-le a.count a.slots (let l = s.long in let f = s.few in omega arith)
+  listed_long = length-take-le a.count a.slots (let l = a.within.long in let f = a.within.few in omega arith)
 
   pub listed_few : length (listed a) ≤ 60
-  listed_few = rw listed_long s.few
+  listed_few = rw listed_long a.within.few
 
   pub listed_at : (k : ℕ) → k < a.count → get_or a.slots k 0 ≡ get_or (listed a) k 0
   listed_at k h = sym (get_or-take a.count a.slots k 0 h)
@@ -105,10 +106,10 @@ module _ (l : Layout) (steps : List ℕ) where
                   ∙ ap (λ (b : Bool). take count active ++ cond b come (slot ∷ come)) (sym t) ∙ before;
             }
 
-  pub all_active : (k count : ℕ) (active : List ℕ) → k ≤ length (slots_of l) → length (slots_of l) ≤ k → ActiveTo k count active
-      → ActiveAre l steps (record { slots = active; count = count })
-  all_active k count active h over so_far = record {
-    slots = record { long = so_far.long; few = let w = so_far.within in omega (arith, few_slots l); below = so_far.below };
-    whole = sym (append-nil (take count active))
-        ∙ ap (λ (xs : List ℕ). take count active ++ active_among steps xs) (sym (drop_of_length-le (slots_of l) {i = k} over)) ∙ so_far.all;
-  }
+  pub all_within : (k count : ℕ) (active : List ℕ) → k ≤ length (slots_of l) → ActiveTo k count active → SlotsIn active count
+  all_within k count active h so_far = record { long = so_far.long; few = let w = so_far.within in omega (arith, few_slots l); below = so_far.below }
+
+  pub all_active : (k count : ℕ) (active : List ℕ) → length (slots_of l) ≤ k → ActiveTo k count active → take count active ≡ active_slots l steps
+  all_active k count active over so_far =
+      sym (append-nil (take count active))
+      ∙ ap (λ (xs : List ℕ). take count active ++ active_among steps xs) (sym (drop_of_length-le (slots_of l) {i = k} over)) ∙ so_far.all

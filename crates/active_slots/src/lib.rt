@@ -1,32 +1,20 @@
 // The active slots of a frame (ISO/IEC 11172-3 2.4.1.6): those that send scfsi and scalefactors.
 #![tactic(auto)]
 
-ghost use Rattle.std.specs.Prelude.{◌≡◌, ◌≤◌};
-ghost use Rattle.active_slots.specs.Active.{listed, ActiveAre};
+mod slots;
+
+ghost use Rattle.std.specs.Prelude.{◌≡◌};
+ghost use Rattle.side_info.specs.SideInfo.{active_slots};
+ghost use Rattle.active_slots.specs.Active.{listed};
 
 use layout::Layout;
 
-// The active slots: the first `count` entries.
-#[derive(Clone, Copy)]
-pub struct ActiveSlots {
-    pub slots: [u8; 64],
-    pub count: usize,
-}
-
-impl ActiveSlots {
-    // The active slots alone.
-    pub fn as_slice(&self) -> &[u8]
-        requires { self.now.count ≤ 64 }
-        ensures { result.now ≡ listed self.now }
-    {
-        &self.slots[..self.count]
-    }
-}
+pub use slots::ActiveSlots;
 
 // The active slots, in the order in which scfsi and scalefactors travel. They are gathered without a branch that the steps decide: a slot is laid down
 // behind those so far, and counted where its steps are not 0.
 pub fn active_slots(layout: Layout, nb_steps: [u32; 64]) -> ActiveSlots
-    ensures { ActiveAre layout nb_steps result }
+    ensures { listed result ≡ active_slots layout nb_steps }
 {
     let slots = layout.slots();
     let mut active = [0; 64];

@@ -20,7 +20,8 @@ use Rattle.layout.proofs.FieldLaws.{carried}
 use Rattle.allocation_rounds.specs.Rounds.{place_in}
 use Rattle.allocation_run.proofs.RuleLaws.{sound_row}
 use Rattle.allocation_worth.specs.Worth.{places_from, Worth}
-use Rattle.side_info.specs.SideInfo.{SideInfo, active_slots, scalefactor_asked, record_asked}
+use Rattle.side_info.specs.declared.SideInfo.{SideInfo}
+use Rattle.side_info.specs.SideInfo.{active_slots, scalefactor_asked, record_asked}
 use Rattle.side_info.proofs.ListLaws.{each_at}
 use Rattle.side_info.proofs.ShareLaws.{all_same}
 use Rattle.side_info.proofs.AskedLaws.{FieldYes, record_passes}

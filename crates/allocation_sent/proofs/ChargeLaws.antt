@@ -24,7 +24,8 @@ use Rattle.allocation_run.specs.Entries.{Entry, charge, charge_at, rules_of, ent
 use Rattle.allocation_run.proofs.LaidLaws.{entries_count, entry_at}
 use Rattle.allocation_worth.specs.Worth.{places_from, Worth}
 use Rattle.allocation_worth.proofs.WorthLaws.{one_of_head, one_of_tail}
-use Rattle.side_info.specs.SideInfo.{SideInfo, active_among, active_slots, slot_count}
+use Rattle.side_info.specs.declared.SideInfo.{SideInfo}
+use Rattle.side_info.specs.SideInfo.{active_among, active_slots, slot_count}
 use Rattle.side_info.proofs.CountLaws.{slot_most}
 use Rattle.side_info.proofs.FlatLaws.{sum_sum, sum_most}
 

@@ -17,7 +17,6 @@ use Rattle.layout.specs.Layout.{own, layout_of, fields_of, field_in}
 use Rattle.layout.proofs.ServedLaws.{slot_served}
 use Rattle.audio_data.specs.declared.Scfsi.{Scfsi}
 use Rattle.audio_data.specs.declared.Scfsi.TheVariants.{ThreePerGranule}
-use Rattle.audio_data.specs.declared.ScfsiSlot.{ScfsiSlot}
 use Rattle.audio_data.specs.Scfsi.{Agrees}
 use Rattle.audio_data.specs.Record.{fresh}
 use Rattle.encoder_bit_budget.specs.declared.Request.{Request}
@@ -29,19 +28,19 @@ use Rattle.encoder_bit_demand.specs.Demand.{first_step}
 use Rattle.allocation_worth.specs.Worth.{Worth}
 use Rattle.encoder_bit_allocator.specs.Allocation.{AllocationAnswer, worst_case, accepted, allocation_in, allocation_of, AllocationIs}
 use Rattle.encoder_bit_allocator.proofs.AnswerLaws.{asked_zero, number_is}
-use Rattle.side_info.specs.SideInfo.{SideInfo, side_info, scalefactors_in, header_layout, or_b2a, record_asked, idle_scfsi}
+use Rattle.side_info.specs.declared.SideInfo.{SideInfo}
+use Rattle.side_info.specs.SideInfo.{side_info, scalefactors_in, header_layout, or_b2a, record_asked, idle_scfsi}
 use Rattle.record_check.specs.Together.{StepsCarried}
-use Rattle.side_info_writer.specs.declared.WrittenSideInfo.{WrittenSideInfo}
-use Rattle.side_info_writer.specs.Written.{writer_asked, written_of, WrittenIs}
+use Rattle.side_info_writer.specs.Written.{WrittenAnswer, writer_asked, written_of, WrittenIs}
 use Rattle.record_check.proofs.PassLaws.{hang_together}
 use Rattle.allocation_sent.specs.Sent.{CanBeSent, AllocationPasses}
 use Rattle.allocation_sent.proofs.AskedLaws.{field_yes, passes}
 use Rattle.allocation_sent.proofs.ChargeLaws.{served_count, worst_covers, sent_fits}
 
 -- the number of what is written is that of its questions
-number_written : (h : FrameHeader) (r : SideInfo) (w : WrittenSideInfo) → WrittenIs h r w → w.number ≡ number (writer_asked h r)
+number_written : (h : FrameHeader) (r : SideInfo) (w : WrittenAnswer) → WrittenIs h r w → w.number ≡ number (writer_asked h r)
 unfolding written_of
-number_written h r w i = ap (λ (v : WrittenSideInfo). v.number) i.whole
+number_written h r w i = ap (λ (v : WrittenAnswer). v.number) i.whole
 
 -- the worst case covers every field's slots
 covered : (l : Layout) (r : SideInfo) (f : ℕ) → f < length (fields_of l) → served_count r (field_in (fields_of l) f) ≤ get_or (worst_case l) f 0
@@ -124,8 +123,8 @@ plain_scfsi q smr a e zero =
     ap (λ (v : AllocationAnswer). v.audio.scfsi) e
     ∙ ap (λ (n : ℕ). (allocation_in (budget_of q).budget smr q.banc n).audio.scfsi) (sym (number_is q smr) ∙ sym (ap (λ (v : AllocationAnswer). v.number) e) ∙ zero)
 
-all_three : (scfsi : List ScfsiSlot) → scfsi ≡ replicate 64 idle_scfsi → (slot : ℕ) → (get_or scfsi slot idle_scfsi).scfsi ≡ ThreePerGranule
-all_three scfsi e slot = ap (λ (xs : List ScfsiSlot). (get_or xs slot idle_scfsi).scfsi) e ∙ ap (λ (v : ScfsiSlot). v.scfsi) (blank 64 idle_scfsi slot)
+all_three : (scfsi : List Scfsi) → scfsi ≡ replicate 64 idle_scfsi → (slot : ℕ) → (get_or scfsi slot idle_scfsi) ≡ ThreePerGranule
+all_three scfsi e slot = ap (λ (xs : List Scfsi). (get_or xs slot idle_scfsi)) e ∙ ap (λ (v : Scfsi). v.scfsi) (blank 64 idle_scfsi slot)
 
 -- no steps where no field serves the slot
 carried_steps : (q : Request) (smr : List (List Float)) (a : AllocationAnswer) → Accepted q smr a → (slot : ℕ) → slot < 64

@@ -15,7 +15,7 @@ idle table sblimit bound channels = record {
   bound = bound;
   channels = channels;
   nb_steps = replicate 64 0;
-  scfsi = replicate 64 (record { scfsi = ThreePerGranule });
+  scfsi = replicate 64 (ThreePerGranule);
   scalefactor = replicate 192 0;
 }
 

@@ -60,12 +60,6 @@ impl Scfsi {
     }
 }
 
-// One slot's scfsi.
-#[derive(Clone, Copy)]
-pub struct ScfsiSlot {
-    pub scfsi: Scfsi,
-}
-
 // The side information of one frame.
 #[derive(Clone, Copy)]
 pub struct AudioData {
@@ -78,7 +72,7 @@ pub struct AudioData {
     // By slot: the number of quantization steps; 0 where nothing is allocated.
     pub nb_steps: [u32; 2 * NUM_SUBBANDS],
     // By slot.
-    pub scfsi: [ScfsiSlot; 2 * NUM_SUBBANDS],
+    pub scfsi: [Scfsi; 2 * NUM_SUBBANDS],
     // At 3 * slot + granule: the index into Table 3-B.1.
     pub scalefactor: [u8; 6 * NUM_SUBBANDS],
 }
@@ -108,9 +102,7 @@ impl AudioData {
             bound: 0,
             channels: 0,
             nb_steps: [0; 2 * NUM_SUBBANDS],
-            scfsi: [ScfsiSlot {
-                scfsi: Scfsi::ThreePerGranule,
-            }; 2 * NUM_SUBBANDS],
+            scfsi: [Scfsi::ThreePerGranule; 2 * NUM_SUBBANDS],
             scalefactor: [0; 6 * NUM_SUBBANDS],
         }
     }

@@ -3,7 +3,8 @@ use Rattle.std.specs.Prelude.{Option, None, Some}
 use Rattle.std.proofs.Common.{◌≡◌, ℕ, Bool, true, false, cond, ◌||◌, List, map, take, refl, sym, ap, ◌∙◌, Result, Ok, Err, le-ltb}
 use Rattle.std.specs.Array.{IsFirstChunk}
 use Rattle.header.specs.declared.FrameHeader.{FrameHeader}
-use Rattle.side_info.specs.SideInfo.{SideInfo, side_info}
+use Rattle.side_info.specs.declared.SideInfo.{SideInfo}
+use Rattle.side_info.specs.SideInfo.{side_info}
 use Rattle.c_answers.specs.declared.refusal.Refusal.{Refusal}
 use Rattle.c_answers.specs.Answers.{Meaning, refused, meant, asked}
 use Rattle.c_answers.specs.Refusals.{refusal_number, meaning_in}

@@ -2,9 +2,10 @@
 use Rattle.std.specs.Prelude.{ℕ, Bool, cond, ◌||◌, List, map, leb, ltb, length, take, Option, None, Some}
 use Rattle.std.specs.List.{list_all}
 use Rattle.header.specs.declared.FrameHeader.{FrameHeader}
-use Rattle.audio_data.specs.declared.ScfsiSlot.{ScfsiSlot}
+use Rattle.audio_data.specs.declared.Scfsi.{Scfsi}
 use Rattle.audio_data.specs.Scfsi.{of_code}
-use Rattle.side_info.specs.SideInfo.{SideInfo, side_info}
+use Rattle.side_info.specs.declared.SideInfo.{SideInfo}
+use Rattle.side_info.specs.SideInfo.{side_info}
 use Rattle.c_answers.specs.declared.arguments.HeaderNumbers.{HeaderNumbers}
 use Rattle.c_side_info.specs.declared.record.RecordSlices.{RecordSlices}
 use Rattle.c_answers.specs.Answers.{Meaning, asked}
@@ -21,8 +22,8 @@ abbrev pub are_codes : List ℕ → Bool
 are_codes codes = list_all (λ code. leb code 3) codes
 
 -- a slot's scfsi by its code
-abbrev pub coded : ℕ → ScfsiSlot
-coded code = record { scfsi = of_code code }
+abbrev pub coded : ℕ → Scfsi
+coded code = of_code code
 
 -- the record of the first elements; nothing where one of its scfsi is no code
 unfoldable pub record_in : List ℕ → List ℕ → List ℕ → Option SideInfo

@@ -3,7 +3,7 @@ ghost use Rattle.std.specs.Prelude.{◌≡◌, map};
 ghost use Rattle.c_side_info.specs.Arguments.{are_codes, coded, frame_asked};
 ghost use Rattle.c_side_info.specs.Parts.{frame_in};
 
-use audio_data::{Scfsi, ScfsiSlot};
+use audio_data::Scfsi;
 use c_answers::arguments::HeaderNumbers;
 use c_answers::refusal::Refusal;
 use header::FrameHeader;
@@ -21,7 +21,7 @@ pub struct RecordSlices<'a> {
 pub struct FrameGiven {
     pub header: FrameHeader,
     pub nb_steps: [u32; 64],
-    pub scfsi: [ScfsiSlot; 64],
+    pub scfsi: [Scfsi; 64],
     pub scalefactor: [u8; 192],
 }
 
@@ -55,16 +55,14 @@ fn are_codes(codes: &[u8; 64]) -> bool
 }
 
 // The scfsi of each code.
-fn slots(codes: &[u8; 64]) -> [ScfsiSlot; 64]
+fn slots(codes: &[u8; 64]) -> [Scfsi; 64]
     ensures { result ≡ map coded codes.now }
 {
     codes.map(|code| slot(code))
 }
 
-fn slot(code: u8) -> ScfsiSlot
+fn slot(code: u8) -> Scfsi
     ensures { result ≡ coded code }
 {
-    ScfsiSlot {
-        scfsi: Scfsi::of_code(code),
-    }
+    Scfsi::of_code(code)
 }

@@ -2,10 +2,9 @@
 -- record's values.
 use Rattle.std.specs.Prelude.{ℕ, Bool, ◌||◌, List, [], ◌∷◌, map, ltb, length}
 use Rattle.header.specs.declared.FrameHeader.{FrameHeader}
-use Rattle.audio_data.specs.declared.ScfsiSlot.{ScfsiSlot}
+use Rattle.audio_data.specs.declared.Scfsi.{Scfsi}
 use Rattle.audio_data.specs.Scfsi.{code_of}
-use Rattle.side_info_reading.specs.declared.ReadSideInfo.{ReadSideInfo}
-use Rattle.side_info_reading.specs.Read.{read_of}
+use Rattle.side_info_reading.specs.Read.{ReadAnswer, read_of}
 use Rattle.c_answers.specs.declared.arguments.HeaderNumbers.{HeaderNumbers}
 use Rattle.c_answers.specs.Answers.{Meaning, asked, Reply, reply}
 use Rattle.c_answers.specs.Arguments.{header_numbered}
@@ -19,20 +18,20 @@ abbrev pub header_asked : HeaderNumbers → List ℕ → List ℕ → List ℕ �
 header_asked n steps scfsi index out = asked (short steps scfsi index out) (header_numbered n)
 
 -- the codes of scfsi
-abbrev pub codes_of : List ScfsiSlot → List ℕ
+abbrev pub codes_of : List Scfsi → List ℕ
 codes_of slots = map (λ s. code_of s.scfsi) slots
 
 -- a reader's answer in its four slices: by slot the steps and the scfsi codes; the scalefactor indices; and how many bits are used
-abbrev pub steps_in : ReadSideInfo → Reply ℕ
+abbrev pub steps_in : ReadAnswer → Reply ℕ
 steps_in r = reply r.number r.nb_steps
 
-abbrev pub scfsi_in : ReadSideInfo → Reply ℕ
+abbrev pub scfsi_in : ReadAnswer → Reply ℕ
 scfsi_in r = reply r.number (codes_of r.scfsi)
 
-abbrev pub indices_in : ReadSideInfo → Reply ℕ
+abbrev pub indices_in : ReadAnswer → Reply ℕ
 indices_in r = reply r.number r.scalefactor
 
-abbrev pub bits_in : ReadSideInfo → Reply ℕ
+abbrev pub bits_in : ReadAnswer → Reply ℕ
 bits_in r = reply r.number (r.bits_used ∷ [])
 
 -- the replies to bytes and a header

@@ -9,7 +9,7 @@ ghost use Rattle.c_answers.specs.Answers.{answered, Answers};
 ghost use Rattle.c_answers.specs.Refusals.{number_in};
 ghost use Rattle.c_side_info_read.specs.Replies.{header_asked, codes_of, steps_in, scfsi_in, indices_in, bits_in, steps_read, scfsi_read, indices_read, bits_read};
 
-use audio_data::ScfsiSlot;
+use audio_data::Scfsi;
 use c_answers::arguments::HeaderNumbers;
 use c_answers::refusal::Refusal;
 use c_answers::writing;
@@ -52,13 +52,13 @@ pub fn read_side_info(
 }
 
 // The codes of scfsi.
-fn codes_of(slots: [ScfsiSlot; 64]) -> [u8; 64]
+fn codes_of(slots: [Scfsi; 64]) -> [u8; 64]
     ensures { result ≡ codes_of slots }
 {
     slots.map(|slot| code(slot))
 }
 
-fn code(slot: ScfsiSlot) -> u8
+fn code(slot: Scfsi) -> u8
     ensures { result ≡ code_of slot.scfsi }
 {
     slot.scfsi.code()

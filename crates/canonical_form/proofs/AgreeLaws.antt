@@ -20,10 +20,10 @@ use Rattle.layout.specs.declared.AllocationField.{AllocationField}
 use Rattle.layout.specs.Slots.{slot_of}
 use Rattle.layout.specs.Layout.{served, fields_of, field_steps, slots_of}
 use Rattle.audio_data.specs.declared.Scfsi.{Scfsi}
-use Rattle.audio_data.specs.declared.ScfsiSlot.{ScfsiSlot}
 use Rattle.audio_data.specs.Scfsi.{Three, code_of, sent}
 use Rattle.bit_string.specs.Bits.{bits_of}
-use Rattle.side_info.specs.SideInfo.{SideInfo, idle_scfsi, scfsi_in, scalefactors_in, header_layout, active_among, active_slots, allocation_field_bits, scfsi_bits, scalefactor_bits, side_info_bits, same_steps, field_asked, tabled, scalefactor_asked, record_asked}
+use Rattle.side_info.specs.declared.SideInfo.{SideInfo}
+use Rattle.side_info.specs.SideInfo.{idle_scfsi, scfsi_in, scalefactors_in, header_layout, active_among, active_slots, allocation_field_bits, scfsi_bits, scalefactor_bits, side_info_bits, same_steps, field_asked, tabled, scalefactor_asked, record_asked}
 use Rattle.side_info.proofs.ListLaws.{Each, each_map, each_of, flat_each, map_each}
 use Rattle.side_info_writer.specs.Written.{written, where_zero, written_of}
 use Rattle.side_info_reading.proofs.SlotLaws.{Field, each_field, slots_small, active_slot}
@@ -119,7 +119,7 @@ written_same h r s a =
 -- the chosen scfsi of a slot
 pub scfsi_chosen : (s : SideInfo) (slot : ℕ) → slot < 64 → scfsi_in (canonical s) slot ≡ fewest_scfsi (scalefactors_in s slot)
 unfolding chosen
-scfsi_chosen s slot h = ap (λ (x : ScfsiSlot). x.scfsi) (tabulated 64 (λ k. record { scfsi = fewest_scfsi (scalefactors_in s k) }) slot idle_scfsi h)
+scfsi_chosen s slot h = ap (λ (x : Scfsi). x.scfsi) (tabulated 64 (λ k. fewest_scfsi (scalefactors_in s k)) slot idle_scfsi h)
 
 module _ (l : Layout) where
   -- their canonical records agree where the writer looks

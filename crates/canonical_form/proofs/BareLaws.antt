@@ -12,13 +12,12 @@ use Rattle.header.specs.declared.FrameHeader.{FrameHeader}
 use Rattle.layout.specs.declared.Layout.{Layout}
 use Rattle.audio_data.specs.declared.Scfsi.{Scfsi}
 use Rattle.audio_data.specs.declared.Scfsi.TheVariants.{ThreePerGranule}
-use Rattle.audio_data.specs.declared.ScfsiSlot.{ScfsiSlot}
 use Rattle.audio_data.specs.Scfsi.{three, Agrees}
 use Rattle.bit_string.specs.Bits.{unpacked}
-use Rattle.side_info.specs.SideInfo.{SideInfo, side_info, idle_scfsi, scfsi_in, scalefactors_in, header_layout, active_slots}
+use Rattle.side_info.specs.declared.SideInfo.{SideInfo}
+use Rattle.side_info.specs.SideInfo.{side_info, idle_scfsi, scfsi_in, scalefactors_in, header_layout, active_slots}
 use Rattle.record_check.specs.Together.{StepsCarried, HangsTogether}
-use Rattle.side_info_writer.specs.declared.WrittenSideInfo.{WrittenSideInfo}
-use Rattle.side_info_writer.specs.Written.{written_of}
+use Rattle.side_info_writer.specs.Written.{WrittenAnswer, written_of}
 use Rattle.side_info_reading.specs.Read.{read, read_of, Restorable}
 use Rattle.side_info_reading.proofs.SlotLaws.{active_slot}
 use Rattle.side_info_reading.proofs.ReadLaws as Read
@@ -36,8 +35,8 @@ module _ (l : Layout) (s : SideInfo) where
   abbrev steps_at : ℕ → ℕ
   steps_at slot = get_or s.steps slot 0
 
-  abbrev scfsi_at : ℕ → ScfsiSlot
-  scfsi_at slot = cond (is_active slot) (record { scfsi = fewest_scfsi (scalefactors_in s slot) }) idle_scfsi
+  abbrev scfsi_at : ℕ → Scfsi
+  scfsi_at slot = cond (is_active slot) (fewest_scfsi (scalefactors_in s slot)) idle_scfsi
 
   abbrev index_at : ℕ → ℕ
   index_at k = cond (is_active (k / 3)) (get_or s.scalefactors k 0) 0
@@ -66,8 +65,8 @@ module _ (l : Layout) (s : SideInfo) where
     scfsi_bare : scfsi_in bare slot ≡ fewest_scfsi (scalefactors_in s slot)
     unfolding bare
     scfsi_bare =
-        ap (λ (x : ScfsiSlot). x.scfsi)
-        (tabulated 64 scfsi_at slot idle_scfsi small ∙ ap (λ (b : Bool). cond b (record { scfsi = fewest_scfsi (scalefactors_in s slot) }) idle_scfsi) e)
+        ap (λ (x : Scfsi). x.scfsi)
+        (tabulated 64 scfsi_at slot idle_scfsi small ∙ ap (λ (b : Bool). cond b (fewest_scfsi (scalefactors_in s slot)) idle_scfsi) e)
 
     index_bare : (k : ℕ) → k / 3 ≡ slot → get_or bare.scalefactors k 0 ≡ get_or s.scalefactors k 0
     unfolding bare
@@ -87,8 +86,8 @@ module _ (l : Layout) (s : SideInfo) where
     scfsi_idle : scfsi_in bare slot ≡ ThreePerGranule
     unfolding bare
     scfsi_idle =
-        ap (λ (x : ScfsiSlot). x.scfsi)
-        (or_behind 64 scfsi_at slot idle_scfsi (λ h. ap (λ (b : Bool). cond b (record { scfsi = fewest_scfsi (scalefactors_in s slot) }) idle_scfsi) e))
+        ap (λ (x : Scfsi). x.scfsi)
+        (or_behind 64 scfsi_at slot idle_scfsi (λ h. ap (λ (b : Bool). cond b (fewest_scfsi (scalefactors_in s slot)) idle_scfsi) e))
 
     index_idle : (k : ℕ) → k / 3 ≡ slot → get_or bare.scalefactors k 0 ≡ 0
     unfolding bare
@@ -134,12 +133,12 @@ module _ (l : Layout) (s : SideInfo) where
 
 -- ---- read back
 
-pub read_bare : (h : FrameHeader) (s : SideInfo) (w : WrittenSideInfo) → HangsTogether (header_layout h) s → w ≡ written_of h (canonical s) → w.number ≡ 0
+pub read_bare : (h : FrameHeader) (s : SideInfo) (w : WrittenAnswer) → HangsTogether (header_layout h) s → w ≡ written_of h (canonical s) → w.number ≡ 0
     → read_of h w.bytes ≡ read 0 (bare (header_layout h) s) w.bits_used
 read_bare h s w whole e z =
     let p = bare (header_layout h) s in
     let made : w ≡ written_of h p = e ∙ written_same h (canonical s) p (agree_bare (header_layout h) s) in
     let back = (Read.promises h w.bytes (read_of h w.bytes) refl).back in
-    back p (sym (ap (λ (v : WrittenSideInfo). v.number) made) ∙ z) (restorable (header_layout h) s whole)
-    (ap (λ (v : WrittenSideInfo). take (written_of h p).bits_used (unpacked v.bytes)) made)
-    ∙ ap (read 0 p) (sym (ap (λ (v : WrittenSideInfo). v.bits_used) made))
+    back p (sym (ap (λ (v : WrittenAnswer). v.number) made) ∙ z) (restorable (header_layout h) s whole)
+    (ap (λ (v : WrittenAnswer). take (written_of h p).bits_used (unpacked v.bytes)) made)
+    ∙ ap (read 0 p) (sym (ap (λ (v : WrittenAnswer). v.bits_used) made))

@@ -12,7 +12,8 @@ use Rattle.encoder_bit_budget.specs.Budget.{header_asked}
 use Rattle.layout.specs.declared.Layout.{Layout}
 use Rattle.layout.specs.declared.AllocationField.{AllocationField}
 use Rattle.layout.specs.Layout.{own, fields_of}
-use Rattle.side_info.specs.SideInfo.{SideInfo, header_layout, active_slots, shared_asked, row_asked, field_asked, scalefactor_asked, record_asked, side_info_bits}
+use Rattle.side_info.specs.declared.SideInfo.{SideInfo}
+use Rattle.side_info.specs.SideInfo.{header_layout, active_slots, shared_asked, row_asked, field_asked, scalefactor_asked, record_asked, side_info_bits}
 use Rattle.side_info.proofs.ListLaws.{Each, each_at}
 use Rattle.record_check.specs.Together.{HangsTogether}
 use Rattle.record_check.specs.Check.{slot_asked, in_order, check_of}

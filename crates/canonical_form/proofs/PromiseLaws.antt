@@ -13,22 +13,20 @@ use Rattle.header.specs.Questions.{number}
 use Rattle.encoder_bit_budget.specs.Budget.{allocation_bits}
 use Rattle.layout.specs.declared.Layout.{Layout}
 use Rattle.layout.specs.Layout.{sum_over}
-use Rattle.audio_data.specs.declared.ScfsiSlot.{ScfsiSlot}
+use Rattle.audio_data.specs.declared.Scfsi.{Scfsi}
 use Rattle.audio_data.specs.Scfsi.{parts_of}
 use Rattle.audio_data.proofs.ScfsiLaws.{comes_back}
-use Rattle.side_info.specs.SideInfo.{SideInfo, scfsi_in, scalefactors_in, header_layout, active_slots, side_info_bits, record_asked, slot_count}
+use Rattle.side_info.specs.declared.SideInfo.{SideInfo}
+use Rattle.side_info.specs.SideInfo.{scfsi_in, scalefactors_in, header_layout, active_slots, side_info_bits, record_asked, slot_count}
 use Rattle.side_info.proofs.CountLaws.{counted}
 use Rattle.side_info.proofs.FlatLaws.{sum_least}
 use Rattle.side_info.proofs.ListLaws.{each_of}
 use Rattle.record_check.specs.Together.{HangsTogether}
-use Rattle.record_check.specs.declared.RecordCheck.{RecordCheck}
-use Rattle.record_check.specs.Check.{check_of}
+use Rattle.record_check.specs.Check.{CheckAnswer, check_of}
 use Rattle.record_check.proofs.PromiseLaws as Check
-use Rattle.side_info_writer.specs.declared.WrittenSideInfo.{WrittenSideInfo}
-use Rattle.side_info_writer.specs.Written.{where_zero, writer_asked, written_of}
+use Rattle.side_info_writer.specs.Written.{WrittenAnswer, where_zero, writer_asked, written_of}
 use Rattle.side_info_writer.proofs.WholeLaws as Writer
-use Rattle.side_info_reading.specs.declared.ReadSideInfo.{ReadSideInfo}
-use Rattle.side_info_reading.specs.Read.{read, record_in, read_of}
+use Rattle.side_info_reading.specs.Read.{ReadAnswer, read, read_of}
 use Rattle.side_info_reading.proofs.SlotLaws.{active_slot}
 use Rattle.side_info_reading.proofs.ReadLaws as Read
 use Rattle.side_info_reading.proofs.PassLaws.{read_passes}
@@ -74,7 +72,7 @@ module _ (h : FrameHeader) (s : SideInfo) where
     where
       go : Dec ((check_of h s).number ≡ 0) → (check_of h s).number ≡ 0
       go (yes e) = e
-      go (no n) = sym (ap (λ (w : WrittenSideInfo). w.number) (is_refused h s n)) ∙ z
+      go (no n) = sym (ap (λ (w : WrittenAnswer). w.number) (is_refused h s n)) ∙ z
 
   is_read : (canonical_of h s).number ≡ 0 → read_of h (canonical_of h s).bytes ≡ read 0 (bare l s) (canonical_of h s).bits_used
   is_read z = let c = checked_zero z in read_bare h s (canonical_of h s) (together h s c) (is_written h s c) z
@@ -85,16 +83,16 @@ module _ (h : FrameHeader) (s : SideInfo) where
       let bytes = (canonical_of h s).bytes in
       let r = read_of h bytes in
       let e = is_read z in
-      let passed : (check_of h (record_in r)).number ≡ 0 =
-      ap (λ (c : RecordCheck). c.number)
-      ((read_passes h bytes r).passes (Read.promises h bytes r refl) (ap (λ (v : ReadSideInfo). v.number) e) (check_of h (record_in r)) (Check.promises h (record_in r) (check_of h (record_in r)) refl)) in
-      let p : (check_of h (bare l s)).number ≡ 0 = ap (λ (v : ReadSideInfo). (check_of h (record_in v)).number) (sym e) ∙ passed in
+      let passed : (check_of h r.info).number ≡ 0 =
+      ap (λ (c : CheckAnswer). c.number)
+      ((read_passes h bytes r).passes (Read.promises h bytes r refl) (ap (λ (v : ReadAnswer). v.number) e) (check_of h r.info) (Check.promises h r.info (check_of h r.info) refl)) in
+      let p : (check_of h (bare l s)).number ≡ 0 = ap (λ (v : ReadAnswer). (check_of h v.info).number) (sym e) ∙ passed in
       is_written h (bare l s) p
       ∙ written_same h (canonical (bare l s)) (canonical s) (canonical_agree l (bare l s) s (says_turned l s (bare l s) (says_bare l s)))
       ∙ sym (is_written h s (checked_zero z))
 
   -- whichever scfsi the check accepts
-  is_shortest : (c : List ScfsiSlot) → (check_of h (with_scfsi c s)).number ≡ 0 → (canonical_of h s).bits_used ≤ (written_of h (with_scfsi c s)).bits_used
+  is_shortest : (c : List Scfsi) → (check_of h (with_scfsi c s)).number ≡ 0 → (canonical_of h s).bits_used ≤ (written_of h (with_scfsi c s)).bits_used
   unfolding chosen written_of record_asked
   is_shortest c passed = go (ℕ_discrete (check_of h s).number 0)
     where
@@ -131,7 +129,7 @@ module _ (h : FrameHeader) where
       says_on l s (bare l s) t (says_bare l s)
       (subst (λ (p : SideInfo). SaysTheSame l p t) (sym same) (says_turned l t (bare l t) (says_bare l t)))
 
-  pub promises : (s : SideInfo) (w : WrittenSideInfo) → w ≡ canonical_of h s → CanonicalIs h s w
+  pub promises : (s : SideInfo) (w : WrittenAnswer) → w ≡ canonical_of h s → CanonicalIs h s w
   promises s w e = subst (CanonicalIs h s) (sym e) (record {
     whole = refl;
     refused = is_refused h s;
@@ -139,9 +137,9 @@ module _ (h : FrameHeader) where
     chosen = λ z. Writer.promises h (canonical s) (canonical_of h s) (is_written h s z);
     same_answer = λ z t y says. one_answer s t z y says;
     same_bytes = λ a t b bytes. one_record s t a b bytes;
-    reads = λ z. ap (λ (v : ReadSideInfo). v.number) (is_read h s z);
-    used = λ z. ap (λ (v : ReadSideInfo). v.bits_used) (is_read h s z);
-    back = λ z. subst (λ (v : ReadSideInfo). SaysTheSame (header_layout h) s (record_in v)) (sym (is_read h s z)) (says_bare (header_layout h) s);
-    again = λ z. ap (λ (v : ReadSideInfo). canonical_of h (record_in v)) (is_read h s z) ∙ is_again h s z;
+    reads = λ z. ap (λ (v : ReadAnswer). v.number) (is_read h s z);
+    used = λ z. ap (λ (v : ReadAnswer). v.bits_used) (is_read h s z);
+    back = λ z. subst (λ (v : ReadAnswer). SaysTheSame (header_layout h) s v.info) (sym (is_read h s z)) (says_bare (header_layout h) s);
+    again = λ z. ap (λ (v : ReadAnswer). canonical_of h v.info) (is_read h s z) ∙ is_again h s z;
     shortest = is_shortest h s;
   })

@@ -7,13 +7,13 @@ use Rattle.header.specs.Questions.{Question, number}
 use Rattle.encoder_bit_budget.specs.Budget.{header_asked}
 use Rattle.layout.specs.declared.Layout.{Layout}
 use Rattle.layout.specs.Layout.{fields_of}
-use Rattle.audio_data.specs.declared.ScfsiSlot.{ScfsiSlot}
+use Rattle.audio_data.specs.declared.Scfsi.{Scfsi}
 use Rattle.bit_string.specs.Bits.{packed}
-use Rattle.side_info.specs.SideInfo.{SideInfo, side_info, scalefactors_in, header_layout, active_slots, side_info_bits, row_asked, scalefactor_asked}
+use Rattle.side_info.specs.declared.SideInfo.{SideInfo}
+use Rattle.side_info.specs.SideInfo.{side_info, scalefactors_in, header_layout, active_slots, side_info_bits, row_asked, scalefactor_asked}
 use Rattle.record_check.specs.Check.{slot_asked, in_order, check_of}
-use Rattle.side_info_writer.specs.declared.WrittenSideInfo.{WrittenSideInfo}
-use Rattle.side_info_writer.specs.Written.{written, where_zero, written_of, WrittenIs}
-use Rattle.side_info_reading.specs.Read.{record_in, read_of}
+use Rattle.side_info_writer.specs.Written.{WrittenAnswer, written, where_zero, written_of, WrittenIs}
+use Rattle.side_info_reading.specs.Read.{read_of}
 use Rattle.canonical_form.specs.Fewest.{canonical}
 
 -- ---- the answer
@@ -30,7 +30,7 @@ canonical_asked h s =
     ++ map (scalefactor_asked s) (active_slots l s.steps)))
 
 -- the writer's bits, of the record with the chosen scfsi; beside a refusal none
-unfoldable pub canonical_of : FrameHeader → SideInfo → WrittenSideInfo
+unfoldable pub canonical_of : FrameHeader → SideInfo → WrittenAnswer
 unfolding canonical_asked packed side_info_bits
 canonical_of h s =
     let n = number (canonical_asked h s) in
@@ -48,10 +48,10 @@ pub record SaysTheSame (l : Layout) (s t : SideInfo) : Type 0 where
   pub indices : (slot : ℕ) → one_of (active_slots l s.steps) slot ≡ true → scalefactors_in s slot ≡ scalefactors_in t slot
 
 -- a record with other scfsi
-abbrev pub with_scfsi : List ScfsiSlot → SideInfo → SideInfo
+abbrev pub with_scfsi : List Scfsi → SideInfo → SideInfo
 with_scfsi c s = side_info s.steps c s.scalefactors
 
-pub record CanonicalIs (h : FrameHeader) (s : SideInfo) (w : WrittenSideInfo) : Type 0 where
+pub record CanonicalIs (h : FrameHeader) (s : SideInfo) (w : WrittenAnswer) : Type 0 where
   -- the whole answer; `refused`, `accepted` and `chosen` say it again without the list of questions
   pub whole : w ≡ canonical_of h s
   -- what `check_record` refuses has its number, 174 zeros and no bits
@@ -66,7 +66,7 @@ pub record CanonicalIs (h : FrameHeader) (s : SideInfo) (w : WrittenSideInfo) : 
   -- the bytes of an accepted record are read, in as many bits; what is read says the same; and written so again it gives the same answer
   pub reads : w.number ≡ 0 → (read_of h w.bytes).number ≡ 0
   pub used : w.number ≡ 0 → (read_of h w.bytes).bits_used ≡ w.bits_used
-  pub back : w.number ≡ 0 → SaysTheSame (header_layout h) s (record_in (read_of h w.bytes))
-  pub again : w.number ≡ 0 → canonical_of h (record_in (read_of h w.bytes)) ≡ w
+  pub back : w.number ≡ 0 → SaysTheSame (header_layout h) s (read_of h w.bytes).info
+  pub again : w.number ≡ 0 → canonical_of h (read_of h w.bytes).info ≡ w
   -- with no scfsi that `check_record` accepts for these steps and indices, the given one among them, does `write_side_info` use fewer bits
-  pub shortest : (c : List ScfsiSlot) → (check_of h (with_scfsi c s)).number ≡ 0 → w.bits_used ≤ (written_of h (with_scfsi c s)).bits_used
+  pub shortest : (c : List Scfsi) → (check_of h (with_scfsi c s)).number ≡ 0 → w.bits_used ≤ (written_of h (with_scfsi c s)).bits_used

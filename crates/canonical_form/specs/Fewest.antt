@@ -5,9 +5,9 @@ use Rattle.std.specs.Prelude.{◌≤◌, ◌≡◌, Bool, true, false, List, eqb
 use Rattle.tables.specs.Listed.{tabulate}
 use Rattle.audio_data.specs.declared.Scfsi.{Scfsi}
 use Rattle.audio_data.specs.declared.Scfsi.TheVariants.{ThreePerGranule, Share01Then2, ShareAll, Share0Then12}
-use Rattle.audio_data.specs.declared.ScfsiSlot.{ScfsiSlot}
 use Rattle.audio_data.specs.Scfsi.{Three, parts_of, sent, restored}
-use Rattle.side_info.specs.SideInfo.{SideInfo, side_info, scalefactors_in}
+use Rattle.side_info.specs.declared.SideInfo.{SideInfo}
+use Rattle.side_info.specs.SideInfo.{side_info, scalefactors_in}
 
 -- a scfsi carries three indices where the three are restored from those that it sends
 abbrev pub Carries : Scfsi → Three → Type 0
@@ -31,8 +31,8 @@ pub record FewestIs (t : Three) (r : Scfsi) : Type 0 where
   pub only : (c : Scfsi) → Carries c t → parts_of c ≤ parts_of r → c ≡ r
 
 -- the scfsi of all 64 slots, from their indices; of idle ones too, which do not send it
-unfoldable pub chosen : SideInfo → List ScfsiSlot
-chosen s = tabulate 64 (λ slot. record { scfsi = fewest_scfsi (scalefactors_in s slot) })
+unfoldable pub chosen : SideInfo → List Scfsi
+chosen s = tabulate 64 (λ slot. fewest_scfsi (scalefactors_in s slot))
 
 -- a record with the chosen scfsi in place of its own
 abbrev pub canonical : SideInfo → SideInfo

@@ -6,41 +6,76 @@ ghost use Rattle.audio_data.specs.Scfsi.{three};
 ghost use Rattle.side_info.specs.SideInfo.{side_info};
 ghost use Rattle.canonical_form.specs.Fewest.{FewestIs, chosen};
 ghost use Rattle.canonical_form.specs.Canonical.{CanonicalIs};
+ghost use Rattle.canonical_writer.specs.declared.CanonicalError.TheVariants.{Check, Write};
+ghost use Rattle.canonical_writer.specs.Errors.{error_number, canonical_in};
 
-use audio_data::{Scfsi, ScfsiSlot};
+use audio_data::Scfsi;
 use header::FrameHeader;
-use side_info_writer::WrittenSideInfo;
+use record_checker::RecordError;
+use side_info::SideInfo;
+use side_info_writer::{WriteError, WrittenSideInfo};
 
-// The steps by slot and the scalefactor indices, at 3 * slot + granule, as the bits of a header's frame, each active slot with the scfsi that sends the
-// fewest indices. The scfsi given is read by `check_record` alone, which refuses a record that does not hang together.
+// Why a record has no canonical form.
+#[derive(Clone, Copy, Debug, PartialEq, Eq)]
+pub enum CanonicalError {
+    // It does not pass `check_record`.
+    Check(RecordError),
+    // `write_side_info` refuses it.
+    Write(WriteError),
+}
+
+impl CanonicalError {
+    // The answer's number.
+    pub fn number(self) -> u32
+        ensures { result ≡ error_number self }
+    {
+        match self {
+            CanonicalError::Check(error) => error.number(),
+            CanonicalError::Write(error) => error.number(),
+        }
+    }
+}
+
+impl From<RecordError> for CanonicalError {
+    ghost from_gives = { λ error refusal. refusal ≡ Check error };
+
+    fn from(error: RecordError) -> CanonicalError {
+        CanonicalError::Check(error)
+    }
+}
+
+impl From<WriteError> for CanonicalError {
+    ghost from_gives = { λ error refusal. refusal ≡ Write error };
+
+    fn from(error: WriteError) -> CanonicalError {
+        CanonicalError::Write(error)
+    }
+}
+
+// A record as the bits of a header's frame, each active slot with the scfsi that sends the fewest indices. The scfsi given is read by `check_record` alone,
+// which refuses a record that does not hang together.
 pub fn write_side_info_canonical(
     header: FrameHeader,
-    nb_steps: [u32; 64],
-    scfsi: [ScfsiSlot; 64],
-    scalefactor: [u8; 192],
-) -> WrittenSideInfo
-    ensures { CanonicalIs header (side_info nb_steps scfsi scalefactor) result }
+    info: &SideInfo,
+) -> Result<WrittenSideInfo, CanonicalError>
+    ensures { CanonicalIs header info.now (canonical_in result) }
 {
-    let checked = record_checker::check_record(header, nb_steps, scfsi, scalefactor);
-    if checked.number != 0 {
-        return side_info_writer::refused(checked.number);
-    }
-    let fewest = chosen(scalefactor);
-    side_info_writer::write_side_info(header, nb_steps, fewest, scalefactor)
+    record_checker::check_record(header, info)?;
+    let fewest = SideInfo {
+        scfsi: chosen(&info.scalefactors),
+        ..*info
+    };
+    Ok(side_info_writer::write_side_info(header, &fewest)?)
 }
 
 // The scfsi of every slot, from its three indices.
-fn chosen(scalefactor: [u8; 192]) -> [ScfsiSlot; 64]
-    ensures { result ≡ chosen (side_info [] [] scalefactor) }
+fn chosen(scalefactors: &[u8; 192]) -> [Scfsi; 64]
+    ensures { result ≡ chosen (side_info [] [] scalefactors.now) }
 {
-    let mut slots = [ScfsiSlot {
-        scfsi: Scfsi::ThreePerGranule,
-    }; 64];
+    let mut slots = [Scfsi::ThreePerGranule; 64];
     for slot in 0..64 {
         let at = 3 * slot;
-        slots[slot] = ScfsiSlot {
-            scfsi: fewest_scfsi(scalefactor[at], scalefactor[at + 1], scalefactor[at + 2]),
-        };
+        slots[slot] = fewest_scfsi(scalefactors[at], scalefactors[at + 1], scalefactors[at + 2]);
     }
     slots
 }

@@ -9,12 +9,12 @@ use Rattle.header.proofs.QuestionLaws.{behind, refusing, refusing_both, told_bac
 use Rattle.encoder_bit_budget.specs.Budget.{header_asked}
 use Rattle.encoder_bit_budget.proofs.BudgetLaws.{refusing_header}
 use Rattle.layout.specs.declared.Layout.{Layout}
-use Rattle.side_info.specs.SideInfo.{SideInfo, header_layout}
-use Rattle.record_check.specs.declared.RecordCheck.{RecordCheck}
-use Rattle.record_check.specs.Check.{slot_asked, in_order, about_slot, about_none, slots_asked, check_of}
+use Rattle.side_info.specs.declared.SideInfo.{SideInfo}
+use Rattle.side_info.specs.SideInfo.{header_layout}
+use Rattle.record_check.specs.Check.{CheckAnswer, slot_asked, in_order, about_slot, about_none, slots_asked, check_of}
 use Rattle.record_check.proofs.SlotLaws.{slot_refusing}
 
-abbrev number_in : RecordCheck → ℕ
+abbrev number_in : CheckAnswer → ℕ
 number_in c = c.number
 
 module _ (l : Layout) (s : SideInfo) where

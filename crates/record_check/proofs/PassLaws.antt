@@ -10,7 +10,8 @@ use Rattle.layout.specs.Slots.{slot_of}
 use Rattle.layout.specs.Layout.{fields_of, field_in}
 use Rattle.layout.proofs.FieldLaws.{carried, serves_first, channel_small}
 use Rattle.bitalloc.proofs.RowLaws.{sblimit_small}
-use Rattle.side_info.specs.SideInfo.{SideInfo, shared_asked}
+use Rattle.side_info.specs.declared.SideInfo.{SideInfo}
+use Rattle.side_info.specs.SideInfo.{shared_asked}
 use Rattle.record_check.specs.Together.{StepsCarried, StepsShared, IndicesShared, HangsTogether}
 use Rattle.record_check.proofs.SlotLaws.{serving, first_slot, shared_holds, holds_shared}
 

@@ -16,17 +16,17 @@ use Rattle.layout.specs.declared.Layout.{Layout}
 use Rattle.layout.specs.Slots.{slot_of, channel_in, subband_in}
 use Rattle.encoder_bit_budget.specs.Budget.{header_asked}
 use Rattle.encoder_bit_budget.proofs.BudgetLaws.{refusing_header}
-use Rattle.side_info.specs.SideInfo.{SideInfo, header_layout}
+use Rattle.side_info.specs.declared.SideInfo.{SideInfo}
+use Rattle.side_info.specs.SideInfo.{header_layout}
 use Rattle.record_check.specs.Together.{SlotHolds, HangsTogether}
-use Rattle.record_check.specs.declared.RecordCheck.{RecordCheck}
-use Rattle.record_check.specs.Check.{slot_asked, in_order, checked, about_slot, about_none, slots_asked, check_of, slot_named, FailsBy, turn_of, CheckIs}
+use Rattle.record_check.specs.Check.{CheckAnswer, slot_asked, in_order, checked, about_slot, about_none, slots_asked, check_of, slot_named, FailsBy, turn_of, CheckIs}
 use Rattle.record_check.proofs.SlotLaws.{slot_refusing, holds_passes, passes_holds, refused_fails, second_shared}
 use Rattle.record_check.proofs.TurnLaws.{answer, Passing, Refusing, first_of, all_turns, at_turn, turn_of_lem}
 
 -- ---- in a layout
 
 module _ (l : Layout) (s : SideInfo) where
-  abbrev pub slots_answer : List ℕ → RecordCheck
+  abbrev pub slots_answer : List ℕ → CheckAnswer
   slots_answer slots = answer (slot_asked l s) (slot_refusing l s) about_slot (about_none 0) slots
 
   abbrev Passed : Type 0
@@ -104,12 +104,12 @@ module _ (h : FrameHeader) (s : SideInfo) where
   header_accepted e = by_header ∙ ap (λ (b : Bool). cond b (slots_answer l s in_order) (about_none asked)) e
 
   -- the three ways in which an answer comes about
-  data Came (r : RecordCheck) : Type 0 where
+  data Came (r : CheckAnswer) : Type 0 where
     by_a_header : eqb asked 0 ≡ false → r ≡ about_none asked → Came r
     by_no_slot : asked ≡ 0 → Passed l s → r ≡ about_none 0 → Came r
     by_a_slot : asked ≡ 0 → (q : Refused l s) → r ≡ about_slot (slot l s q) (number (slot_asked l s (slot l s q))) → Came r
 
-  came : (r : RecordCheck) → r ≡ check_of h s → Came r
+  came : (r : CheckAnswer) → r ≡ check_of h s → Came r
   came r e = go (eqb asked 0) refl (outcome l s)
     where
       go : (b : Bool) → eqb asked 0 ≡ b → Passed l s ⊎ Refused l s → Came r
@@ -117,7 +117,7 @@ module _ (h : FrameHeader) (s : SideInfo) where
       go true z (inl p) = by_no_slot (eqb-true asked 0 z) p (e ∙ header_accepted z ∙ p.is)
       go true z (inr q) = by_a_slot (eqb-true asked 0 z) q (e ∙ header_accepted z ∙ q.is)
 
-  module _ (r : RecordCheck) where
+  module _ (r : CheckAnswer) where
     is_refused : Came r → (asked ≡ 0 → ⊥) → r ≡ checked asked 0 0
     is_refused (by_a_header z e) n = e
     is_refused (by_no_slot z p e) n = absurd (n z)
@@ -129,10 +129,10 @@ module _ (h : FrameHeader) (s : SideInfo) where
     is_passed (by_a_slot z q e) n t = absurd (not_all l s q t)
 
     is_together : Came r → r.number ≡ 0 → HangsTogether l s
-    is_together (by_a_header z e) n = absurd (eqb-false asked 0 z (sym (ap (λ (c : RecordCheck). c.number) e) ∙ n))
+    is_together (by_a_header z e) n = absurd (eqb-false asked 0 z (sym (ap (λ (c : CheckAnswer). c.number) e) ∙ n))
     is_together (by_no_slot z p e) n = all_hold l s p
     is_together (by_a_slot z q e) n =
-        absurd (eqb-false (number (slot_asked l s (slot l s q))) 0 q.no (sym (ap (λ (c : RecordCheck). c.number) e) ∙ n))
+        absurd (eqb-false (number (slot_asked l s (slot l s q))) 0 q.no (sym (ap (λ (c : CheckAnswer). c.number) e) ∙ n))
 
     -- the slot named is the one refused
     named : (q : Refused l s) → r ≡ about_slot (slot l s q) (number (slot_asked l s (slot l s q))) → slot_named r ≡ slot l s q
@@ -140,10 +140,10 @@ module _ (h : FrameHeader) (s : SideInfo) where
 
     is_failing : Came r → asked ≡ 0 → (r.number ≡ 0 → ⊥) → FailsBy l s (slot_named r) r.number
     is_failing (by_a_header z e) n f = absurd (eqb-false asked 0 z n)
-    is_failing (by_no_slot z p e) n f = absurd (f (ap (λ (c : RecordCheck). c.number) e))
+    is_failing (by_no_slot z p e) n f = absurd (f (ap (λ (c : CheckAnswer). c.number) e))
     is_failing (by_a_slot z q e) n f =
         subst (λ (k : ℕ). FailsBy l s k r.number) (sym (named q e))
-        (subst (FailsBy l s (slot l s q)) (sym (ap (λ (c : RecordCheck). c.number) e)) (fails_here l s q))
+        (subst (FailsBy l s (slot l s q)) (sym (ap (λ (c : CheckAnswer). c.number) e)) (fails_here l s q))
 
     is_first : Came r → asked ≡ 0 → (k : ℕ) → k < 64 → turn_of k < turn_of (slot_named r) → SlotHolds l s k
     is_first (by_a_header z e) n k small m = absurd (eqb-false asked 0 z n)
@@ -161,11 +161,11 @@ module _ (h : FrameHeader) (s : SideInfo) where
     is_channel (by_a_slot z q e) = rw e (let m = slot_small l s q in omega arith)
 
     is_six : Came r → r.number ≡ 6 → r.channel ≡ 0
-    is_six (by_a_header z e) n = ap (λ (c : RecordCheck). c.channel) e
-    is_six (by_no_slot z p e) n = ap (λ (c : RecordCheck). c.channel) e
-    is_six (by_a_slot z q e) n = ap (λ (c : RecordCheck). c.channel) e ∙ six_first l s q (sym (ap (λ (c : RecordCheck). c.number) e) ∙ n)
+    is_six (by_a_header z e) n = ap (λ (c : CheckAnswer). c.channel) e
+    is_six (by_no_slot z p e) n = ap (λ (c : CheckAnswer). c.channel) e
+    is_six (by_a_slot z q e) n = ap (λ (c : CheckAnswer). c.channel) e ∙ six_first l s q (sym (ap (λ (c : CheckAnswer). c.number) e) ∙ n)
 
-  pub promises : (r : RecordCheck) → r ≡ check_of h s → CheckIs h s r
+  pub promises : (r : CheckAnswer) → r ≡ check_of h s → CheckIs h s r
   promises r e =
       let c = came r e in
       record {

@@ -25,7 +25,8 @@ use Rattle.layout.proofs.FieldLaws.{carried, serves_first, channel_small, served
 use Rattle.layout.proofs.ServedLaws.{slot_served}
 use Rattle.audio_data.specs.Scfsi.{Agrees, agreeing}
 use Rattle.audio_data.proofs.ScfsiLaws.{agreeing_true, agrees_true}
-use Rattle.side_info.specs.SideInfo.{SideInfo, scfsi_in, scalefactors_in, active_slots, shared_asked}
+use Rattle.side_info.specs.declared.SideInfo.{SideInfo}
+use Rattle.side_info.specs.SideInfo.{scfsi_in, scalefactors_in, active_slots, shared_asked}
 use Rattle.record_check.specs.Together.{field_serving, StepsCarried, StepsShared, IndicesShared, SlotHolds}
 use Rattle.side_info.proofs.ShareLaws.{all_same, same_all}
 use Rattle.side_info.proofs.ActiveLaws.{active_is}

@@ -11,9 +11,9 @@ use Rattle.layout.specs.Slots.{slot_of, channel_in, subband_in}
 use Rattle.layout.specs.Layout.{fields_of, serves}
 use Rattle.audio_data.specs.Scfsi.{agreeing}
 use Rattle.encoder_bit_budget.specs.Budget.{header_asked}
-use Rattle.side_info.specs.SideInfo.{SideInfo, scfsi_in, scalefactors_in, header_layout, shared_asked}
+use Rattle.side_info.specs.declared.SideInfo.{SideInfo}
+use Rattle.side_info.specs.SideInfo.{scfsi_in, scalefactors_in, header_layout, shared_asked}
 use Rattle.record_check.specs.Together.{StepsCarried, StepsShared, IndicesShared, SlotHolds, HangsTogether}
-use Rattle.record_check.specs.declared.RecordCheck.{RecordCheck}
 
 -- ---- the questions of a slot
 
@@ -43,32 +43,37 @@ unfoldable pub in_order : List ℕ
 in_order = tabulate 64 (λ k. slot_of (k % 2) (k / 2))
 
 -- an answer: its number, and the subband and the channel that it is about; beside a header's number, and beside 0, both are 0
-abbrev pub checked : ℕ → ℕ → ℕ → RecordCheck
+pub record CheckAnswer : Type 0 where
+  pub number : ℕ
+  pub subband : ℕ
+  pub channel : ℕ
+
+abbrev pub checked : ℕ → ℕ → ℕ → CheckAnswer
 checked n sb ch = record { number = n; subband = sb; channel = ch }
 
-abbrev pub about_slot : ℕ → ℕ → RecordCheck
+abbrev pub about_slot : ℕ → ℕ → CheckAnswer
 about_slot slot n = checked n (subband_in slot) (channel_in slot)
 
-abbrev pub about_none : ℕ → RecordCheck
+abbrev pub about_none : ℕ → CheckAnswer
 about_none n = checked n 0 0
 
 -- slot by slot
-unfoldable pub slots_asked : Layout → SideInfo → List (Question RecordCheck)
+unfoldable pub slots_asked : Layout → SideInfo → List (Question CheckAnswer)
 unfolding flat_map slot_asked in_order
 slots_asked l s = flat_map (λ slot. telling (about_slot slot) (slot_asked l s slot)) in_order
 
 -- the header's questions, then those of the slots in the header's layout
-abbrev pub check_asked : FrameHeader → SideInfo → List (Question RecordCheck)
+abbrev pub check_asked : FrameHeader → SideInfo → List (Question CheckAnswer)
 check_asked h s = telling about_none (header_asked h) ++ slots_asked (header_layout h) s
 
-unfoldable pub check_of : FrameHeader → SideInfo → RecordCheck
+unfoldable pub check_of : FrameHeader → SideInfo → CheckAnswer
 unfolding slots_asked
 check_of h s = first_no (about_none 0) (check_asked h s)
 
 -- ---- what `check_record` promises
 
 -- the slot that an answer names
-abbrev pub slot_named : RecordCheck → ℕ
+abbrev pub slot_named : CheckAnswer → ℕ
 slot_named r = slot_of r.channel r.subband
 
 -- the number of the first of the three that fails at a slot, in the order 17, 6, 18
@@ -82,7 +87,7 @@ FailsBy l s slot n =
 abbrev pub turn_of : ℕ → ℕ
 turn_of slot = 2 * subband_in slot + channel_in slot
 
-pub record CheckIs (h : FrameHeader) (s : SideInfo) (r : RecordCheck) : Type 0 where
+pub record CheckIs (h : FrameHeader) (s : SideInfo) (r : CheckAnswer) : Type 0 where
   -- the whole answer; what follows says it again without the list of the slots' questions
   pub whole : r ≡ check_of h s
   -- a header that is refused has its number, and no place

@@ -6,7 +6,8 @@ use Rattle.layout.specs.declared.Layout.{Layout}
 use Rattle.layout.specs.Slots.{channel_in, subband_in}
 use Rattle.layout.specs.Layout.{served_by, slots_of}
 use Rattle.audio_data.specs.Scfsi.{Agrees}
-use Rattle.side_info.specs.SideInfo.{SideInfo, scfsi_in, scalefactors_in, active_slots}
+use Rattle.side_info.specs.declared.SideInfo.{SideInfo}
+use Rattle.side_info.specs.SideInfo.{scfsi_in, scalefactors_in, active_slots}
 
 -- `served_by` by the slot's number
 abbrev pub field_serving : Layout → ℕ → Option ℕ

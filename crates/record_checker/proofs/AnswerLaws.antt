@@ -11,10 +11,10 @@ use Rattle.encoder_bit_budget.specs.declared.FixedBitBudget.{FixedBitBudget}
 use Rattle.encoder_bit_budget.specs.declared.BitAllocError.{BitAllocError}
 use Rattle.encoder_bit_budget.specs.Budget.{plain, header_asked, error_number, budget_in, budget_of, layout_in}
 use Rattle.encoder_bit_budget.proofs.BudgetLaws.{apart, answer_is}
-use Rattle.side_info.specs.SideInfo.{SideInfo, header_layout}
+use Rattle.side_info.specs.declared.SideInfo.{SideInfo}
+use Rattle.side_info.specs.SideInfo.{header_layout}
 use Rattle.side_info.proofs.HeaderLaws.{same_layout}
-use Rattle.record_check.specs.declared.RecordCheck.{RecordCheck}
-use Rattle.record_check.specs.Check.{about_none, slots_asked, in_order, check_of}
+use Rattle.record_check.specs.Check.{CheckAnswer, about_none, slots_asked, in_order, check_of}
 use Rattle.record_check.proofs.PromiseLaws.{slots_answer, header_refused, header_accepted}
 use Rattle.record_checker.specs.OnTheWay.{check_under}
 
@@ -28,7 +28,7 @@ module _ (h : FrameHeader) (s : SideInfo) where
   unfolding check_under slots_asked
   under l = λ i. check_under l s
 
-  pub from_accepted : (b : FixedBitBudget) (l : Layout) (r : RecordCheck) → budget_in (Ok b) ≡ budget_of (plain h 0) → l ≡ layout_in b → r ≡ check_under l s → r ≡ check_of h s
+  pub from_accepted : (b : FixedBitBudget) (l : Layout) (r : CheckAnswer) → budget_in (Ok b) ≡ budget_of (plain h 0) → l ≡ layout_in b → r ≡ check_under l s → r ≡ check_of h s
   from_accepted b l r ok e made =
       let z : number (header_asked h) ≡ 0 = sym (answer_is (plain h 0)) ∙ sym (ap (λ a. a.answer) ok) in
       made ∙ ap (λ (k : Layout). check_under k s) (e ∙ same_layout h b ok) ∙ under (header_layout h) ∙ sym (header_accepted h s (eq-eqb (number (header_asked h)) 0 z))

@@ -14,7 +14,8 @@ use Rattle.layout.specs.Slots.{slot_of, channel_in, subband_in}
 use Rattle.layout.specs.Layout.{served_by, fields_of, field_in}
 use Rattle.layout.proofs.FieldLaws.{serves_first, channel_small}
 use Rattle.audio_data.specs.Scfsi.{agreeing}
-use Rattle.side_info.specs.SideInfo.{SideInfo, scfsi_in, scalefactors_in, shared_asked}
+use Rattle.side_info.specs.declared.SideInfo.{SideInfo}
+use Rattle.side_info.specs.SideInfo.{scfsi_in, scalefactors_in, shared_asked}
 use Rattle.record_check.specs.Together.{field_serving}
 use Rattle.side_info.proofs.ShareLaws.{shared_is}
 use Rattle.record_check.specs.Check.{asked_by, slot_asked}

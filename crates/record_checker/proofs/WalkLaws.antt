@@ -11,7 +11,7 @@ use lib.Seq.{drop-cons}
 use Rattle.header.specs.Questions.{number}
 use Rattle.layout.specs.declared.Layout.{Layout}
 use Rattle.layout.specs.Slots.{slot_of, channel_in, subband_in}
-use Rattle.side_info.specs.SideInfo.{SideInfo}
+use Rattle.side_info.specs.declared.SideInfo.{SideInfo}
 use Rattle.record_check.specs.Check.{slot_asked, in_order, checked, about_slot, about_none, slots_asked}
 use Rattle.record_check.proofs.SlotLaws.{slot_refusing}
 use Rattle.record_check.proofs.TurnLaws.{next_passes, next_refuses, all_turns, at_turn}

@@ -4,22 +4,15 @@ use Rattle.std.specs.Prelude.{ℕ, Bool, not, cond, ◌&&◌, ◌||◌, Result, 
 use Rattle.header.specs.Questions.{first_no}
 use Rattle.layout.specs.declared.Layout.{Layout}
 use Rattle.layout.specs.Layout.{served_by, fields_of, field_in}
-use Rattle.side_info.specs.SideInfo.{SideInfo}
-use Rattle.record_check.specs.declared.RecordCheck.{RecordCheck}
-use Rattle.record_check.specs.Check.{about_none, slots_asked}
+use Rattle.side_info.specs.declared.SideInfo.{SideInfo}
+use Rattle.record_check.specs.Check.{CheckAnswer, about_none, slots_asked}
 use Rattle.record_checker.specs.declared.SlotError.{SlotError}
-use Rattle.record_checker.specs.declared.SlotError.TheVariants.{NotCarried, StepsDiffer, IndicesDiffer}
-
--- the number of the question that an error says no to
-abbrev pub error_number : SlotError → ℕ
-error_number NotCarried = 17
-error_number StepsDiffer = 6
-error_number IndicesDiffer = 18
+use Rattle.record_checker.specs.Errors.{slot_number}
 
 -- 0 where a slot passes
 abbrev pub refusal_number : {X : Type 0} → Result X SlotError → ℕ
 refusal_number (Ok x) = 0
-refusal_number (Err e) = error_number e
+refusal_number (Err e) = slot_number e
 
 -- the number that a slot is refused by, 0 where it passes; of one that a field serves: 6 where the field serves both channels and they differ, then 18 where
 -- the indices are not free
@@ -35,6 +28,6 @@ unfoldable pub slot_refusal : Layout → ℕ → ℕ → Bool → Bool → Bool 
 slot_refusal l ch sb empty equal agreed = refusal_by l empty equal agreed (served_by l ch sb)
 
 -- the answer in the layout of an accepted header
-unfoldable pub check_under : Layout → SideInfo → RecordCheck
+unfoldable pub check_under : Layout → SideInfo → CheckAnswer
 unfolding slots_asked
 check_under l s = first_no (about_none 0) (slots_asked l s)

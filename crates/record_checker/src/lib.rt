@@ -1,20 +1,22 @@
 // The check of a record of side information: whether its steps, scfsi and scalefactor indices hang together in a header's layout.
 #![tactic(auto)]
 
-ghost use Rattle.std.specs.Prelude.{◌≡◌, slice_index};
+ghost use Rattle.std.specs.Prelude.{◌≡◌, slice_index, Err};
 ghost use Rattle.audio_data.specs.Scfsi.{three, agreeing};
-ghost use Rattle.side_info.specs.SideInfo.{side_info};
 ghost use Rattle.record_check.specs.Check.{CheckIs};
-ghost use Rattle.record_checker.specs.OnTheWay.{error_number, refusal_number, served_refusal, slot_refusal, check_under};
+ghost use Rattle.record_checker.specs.declared.RecordError.TheVariants.{Header};
+ghost use Rattle.record_checker.specs.Errors.{slot_number, check_in};
+ghost use Rattle.record_checker.specs.OnTheWay.{refusal_number, served_refusal, slot_refusal, check_under};
 
-use audio_data::{Scfsi, ScfsiSlot};
+use audio_data::Scfsi;
+use encoder_bit_budget::BitAllocError;
 use header::FrameHeader;
 use layout::Layout;
-use record_check::RecordCheck;
+use side_info::SideInfo;
 
 // Why a slot is refused.
-#[derive(Clone, Copy, PartialEq, Eq)]
-enum SlotError {
+#[derive(Clone, Copy, Debug, PartialEq, Eq)]
+pub enum SlotError {
     // It has steps, and the layout does not carry it.
     NotCarried,
     // The channels that its field serves have different steps.
@@ -25,8 +27,8 @@ enum SlotError {
 
 impl SlotError {
     // The number of the question that says no.
-    fn number(self) -> u32
-        ensures { result ≡ error_number self }
+    pub fn number(self) -> u32
+        ensures { result ≡ slot_number self }
     {
         match self {
             SlotError::NotCarried => 17,
@@ -36,59 +38,66 @@ impl SlotError {
     }
 }
 
-// The steps and scfsi by slot and the scalefactor indices, at 3 * slot + granule, checked in the layout of a header: steps only where it carries a slot
-// (17), one step count in a shared field (6), and indices equal wherever the scfsi of an active slot says that they are shared (18).
-pub fn check_record(
-    header: FrameHeader,
-    nb_steps: [u32; 64],
-    scfsi: [ScfsiSlot; 64],
-    scalefactor: [u8; 192],
-) -> RecordCheck
-    ensures { CheckIs header (side_info nb_steps scfsi scalefactor) result }
-{
-    let budget = encoder_bit_budget::fixed_bit_budget(header);
-    match budget {
-        Ok(b) => check_under(b.layout(), nb_steps, scfsi, scalefactor),
-        Err(error) => RecordCheck {
-            number: error.number(),
-            subband: 0,
-            channel: 0,
-        },
+// Why a record does not pass.
+#[derive(Clone, Copy, Debug, PartialEq, Eq)]
+pub enum RecordError {
+    // The header has no budget.
+    Header(BitAllocError),
+    // The first slot in turn that is refused.
+    Slot { error: SlotError, subband: u32, channel: u32 },
+}
+
+impl RecordError {
+    // The answer's number.
+    pub fn number(self) -> u32
+        ensures { result ≡ (check_in (Err self)).number }
+    {
+        match self {
+            RecordError::Header(error) => error.number(),
+            RecordError::Slot { error, .. } => error.number(),
+        }
     }
 }
 
-// The answer in the layout of an accepted header: slot by slot, by rising subband, channel 0 first.
-fn check_under(
-    layout: Layout,
-    nb_steps: [u32; 64],
-    scfsi: [ScfsiSlot; 64],
-    scalefactor: [u8; 192],
-) -> RecordCheck
-    ensures { result ≡ check_under layout (side_info nb_steps scfsi scalefactor) }
+impl From<BitAllocError> for RecordError {
+    ghost from_gives = { λ error refusal. refusal ≡ Header error };
+
+    fn from(error: BitAllocError) -> RecordError {
+        RecordError::Header(error)
+    }
+}
+
+// A record checked in the layout of a header: steps only where it carries a slot (17), one step count in a shared field (6), and indices equal wherever the
+// scfsi of an active slot says that they are shared (18).
+pub fn check_record(header: FrameHeader, info: &SideInfo) -> Result<(), RecordError>
+    ensures { CheckIs header info.now (check_in result) }
+{
+    let budget = encoder_bit_budget::fixed_bit_budget(header)?;
+    check_under(budget.layout(), info)
+}
+
+// The same in the layout of an accepted header: slot by slot, by rising subband, channel 0 first.
+fn check_under(layout: Layout, info: &SideInfo) -> Result<(), RecordError>
+    ensures { check_in result ≡ check_under layout info.now }
 {
     for k in 0..64 {
         let sb = k / 2;
         let ch = k % 2;
         let slot = 32 * ch + sb;
         let at = 3 * slot;
-        let at_slot = scfsi[slot];
-        let indices = [scalefactor[at], scalefactor[at + 1], scalefactor[at + 2]];
-        let agreed = agreeing(at_slot.scfsi, indices);
-        let empty = nb_steps[slot] == 0;
-        let equal = nb_steps[32 + sb] == nb_steps[sb];
+        let indices = [info.scalefactors[at], info.scalefactors[at + 1], info.scalefactors[at + 2]];
+        let agreed = agreeing(info.scfsi[slot], indices);
+        let empty = info.steps[slot] == 0;
+        let equal = info.steps[32 + sb] == info.steps[sb];
         if let Err(error) = check_slot(layout, ch, sb, empty, equal, agreed) {
-            return RecordCheck {
-                number: error.number(),
+            return Err(RecordError::Slot {
+                error,
                 subband: sb as u32,
                 channel: ch as u32,
-            };
+            });
         }
     }
-    RecordCheck {
-        number: 0,
-        subband: 0,
-        channel: 0,
-    }
+    Ok(())
 }
 
 // Whether granules that share an index have the same.

@@ -1,5 +1,5 @@
 // The arguments of a line: from its numbers to values of the library's types.
-use audio_data::{Scfsi, ScfsiSlot};
+use audio_data::Scfsi;
 use header::{FrameHeader, Mode, ModeExtension};
 use std::array;
 use std::num::f64_from_bits_with_nan;
@@ -65,7 +65,7 @@ pub fn ratios_of(numbers: &[u64]) -> Option<([[f64; 32]; 2], &[u64])> {
 #[derive(Clone, Copy)]
 pub struct Record {
     pub steps: [u32; 64],
-    pub slots: [ScfsiSlot; 64],
+    pub slots: [Scfsi; 64],
     pub indices: [u8; 192],
 }
 
@@ -91,10 +91,8 @@ fn steps_of(numbers: &[u64; 64]) -> Option<[u32; 64]> {
     Some(steps)
 }
 
-fn slots_of(codes: [u64; 2]) -> [ScfsiSlot; 64] {
-    array::from_fn(|slot| ScfsiSlot {
-        scfsi: Scfsi::of_code((codes[slot / 32] >> (2 * (slot % 32)) & 3) as u8),
-    })
+fn slots_of(codes: [u64; 2]) -> [Scfsi; 64] {
+    array::from_fn(|slot| Scfsi::of_code((codes[slot / 32] >> (2 * (slot % 32)) & 3) as u8))
 }
 
 // The bytes that numbers hold, eight each; 0 where the numbers end.

@@ -1,7 +1,7 @@
 // The kinds of side information: written with the scfsi given and in one form, read, and checked.
 use crate::answers::packed;
 use crate::arguments::{Record, bytes_of, header_of, record_of};
-use audio_data::ScfsiSlot;
+use audio_data::Scfsi;
 use header::FrameHeader;
 use replay_answers::{Verdict, verdict_on};
 use side_info_writer::WrittenSideInfo;
@@ -60,7 +60,7 @@ pub fn read_side_info(numbers: &[u64]) -> Option<Verdict> {
 }
 
 // The codes of scfsi, 32 to a number.
-fn packed_codes(slots: &[ScfsiSlot]) -> [u64; 2] {
+fn packed_codes(slots: &[Scfsi]) -> [u64; 2] {
     let mut numbers = [0; 2];
     for (number, chunk) in numbers.iter_mut().zip(slots.chunks(32)) {
         for slot in chunk.iter().rev() {

@@ -10,7 +10,8 @@ use Rattle.header.proofs.QuestionLaws.{said_yes}
 use Rattle.layout.specs.declared.Layout.{Layout}
 use Rattle.layout.specs.declared.AllocationField.{AllocationField}
 use Rattle.layout.specs.Layout.{fields_of}
-use Rattle.side_info.specs.SideInfo.{SideInfo, active_slots, shared_asked, row_asked, field_asked, scalefactor_asked, record_asked}
+use Rattle.side_info.specs.declared.SideInfo.{SideInfo}
+use Rattle.side_info.specs.SideInfo.{active_slots, shared_asked, row_asked, field_asked, scalefactor_asked, record_asked}
 use Rattle.side_info.proofs.ListLaws.{Each}
 
 -- the first question is answered yes where none is answered no

@@ -17,7 +17,8 @@ use Rattle.encoder_bit_budget.specs.Budget.{allocation_bits}
 use Rattle.encoder_bit_budget.proofs.BudgetLaws.{allocation_small}
 use Rattle.bit_string.specs.Bits.{bits_of}
 use Rattle.bit_string.proofs.BitLaws.{length_bits}
-use Rattle.side_info.specs.SideInfo.{SideInfo, scfsi_in, scalefactors_in, active_among, active_slots, allocation_field_bits, scfsi_bits, scalefactor_bits, side_info_bits, slot_count, bit_count}
+use Rattle.side_info.specs.declared.SideInfo.{SideInfo}
+use Rattle.side_info.specs.SideInfo.{scfsi_in, scalefactors_in, active_among, active_slots, allocation_field_bits, scfsi_bits, scalefactor_bits, side_info_bits, slot_count, bit_count}
 use Rattle.side_info.proofs.FlatLaws.{length_flat, sum_sum, sum_most}
 
 -- ---- the active slots

@@ -12,7 +12,8 @@ use Rattle.tables.specs.Search.{one_of}
 use Rattle.layout.specs.declared.AllocationField.{AllocationField}
 use Rattle.layout.specs.Slots.{slot_of}
 use Rattle.layout.specs.Layout.{field_steps}
-use Rattle.side_info.specs.SideInfo.{SideInfo, same_steps, shared_asked}
+use Rattle.side_info.specs.declared.SideInfo.{SideInfo}
+use Rattle.side_info.specs.SideInfo.{same_steps, shared_asked}
 use Rattle.side_info.proofs.ListLaws.{has_first, has_more}
 
 -- ---- from both channels

@@ -15,29 +15,24 @@ use Rattle.layout.specs.Slots.{slot_of}
 use Rattle.layout.specs.Layout.{layout_of, served, fields_of, field_steps, slots_of, sum_over}
 use Rattle.audio_data.specs.declared.Scfsi.{Scfsi}
 use Rattle.audio_data.specs.declared.Scfsi.TheVariants.{ThreePerGranule}
-use Rattle.audio_data.specs.declared.ScfsiSlot.{ScfsiSlot}
+use Rattle.side_info.specs.declared.SideInfo.{SideInfo}
 use Rattle.audio_data.specs.Scfsi.{code_of, parts_of, Three, three, sent}
 use Rattle.encoder_bit_budget.specs.Budget.{allocation_bits}
 use Rattle.bit_string.specs.Bits.{bits_of}
 
 -- ---- the record and its layout
 
--- what a frame's side information says: by slot the steps and the scfsi, at 3 * slot + granule the scalefactor index
-pub record SideInfo : Type 0 where
-  pub steps : List ℕ
-  pub scfsi : List ScfsiSlot
-  pub scalefactors : List ℕ
-
-abbrev pub side_info : List ℕ → List ScfsiSlot → List ℕ → SideInfo
+-- what a frame's side information says, from its parts
+abbrev pub side_info : List ℕ → List Scfsi → List ℕ → SideInfo
 side_info steps scfsi scalefactors = record { steps = steps; scfsi = scfsi; scalefactors = scalefactors }
 
 -- the scfsi of a slot that sends none
-abbrev pub idle_scfsi : ScfsiSlot
-idle_scfsi = record { scfsi = ThreePerGranule }
+abbrev pub idle_scfsi : Scfsi
+idle_scfsi = ThreePerGranule
 
 -- of a slot: its scfsi, and the scalefactor indices of its three granules
 abbrev pub scfsi_in : SideInfo → ℕ → Scfsi
-scfsi_in r slot = (get_or r.scfsi slot idle_scfsi).scfsi
+scfsi_in r slot = get_or r.scfsi slot idle_scfsi
 
 abbrev pub scalefactors_in : SideInfo → ℕ → Three
 scalefactors_in r slot =

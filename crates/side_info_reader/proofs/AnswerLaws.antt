@@ -11,16 +11,17 @@ use borrow.Author.Tests.{eq-eqb}
 use Rattle.header.specs.declared.FrameHeader.{FrameHeader}
 use Rattle.header.specs.Questions.{number}
 use Rattle.layout.specs.declared.Layout.{Layout}
-use Rattle.audio_data.specs.declared.ScfsiSlot.{ScfsiSlot}
+use Rattle.audio_data.specs.declared.Scfsi.{Scfsi}
 use Rattle.encoder_bit_budget.specs.declared.FixedBitBudget.{FixedBitBudget}
 use Rattle.encoder_bit_budget.specs.declared.BitAllocError.{BitAllocError}
 use Rattle.encoder_bit_budget.specs.Budget.{plain, header_asked, error_number, budget_in, budget_of, layout_in}
 use Rattle.encoder_bit_budget.proofs.BudgetLaws.{apart, answer_is}
 use Rattle.bit_string.specs.Bits.{unpacked}
-use Rattle.side_info.specs.SideInfo.{SideInfo, side_info, header_layout, active_slots, side_info_bits}
+use Rattle.side_info.specs.declared.SideInfo.{SideInfo}
+use Rattle.side_info.specs.SideInfo.{side_info, header_layout, active_slots, side_info_bits}
 use Rattle.side_info.proofs.CountLaws.{most}
 use Rattle.side_info.proofs.HeaderLaws.{same_layout}
-use Rattle.active_slots.specs.declared.ActiveSlots.{ActiveSlots}
+use Rattle.active_slots.specs.declared.slots.ActiveSlots.{ActiveSlots}
 use Rattle.active_slots.specs.Active.{listed, ActiveAre}
 use Rattle.side_info_reading.specs.declared.ReadSideInfo.{ReadSideInfo}
 use Rattle.side_info_reading.specs.Taken.{got, refused}
@@ -58,7 +59,7 @@ module _ (l : Layout) (bits : List Bool) where
     pub scfsi_refused : (n : ℕ) → refused n ≡ scfsis_taken (listed a) ahead → side_info_taken l bits ≡ refused n
     scfsi_refused n e = behind_fields ∙ then_refused (with_scfsi l steps) (scfsis_taken (active_slots l steps) ahead) n (slots_are ∙ sym e)
 
-    module _ (scfsi : List ScfsiSlot) (behind : List Bool) (second : got scfsi behind ≡ scfsis_taken (listed a) ahead) where
+    module _ (scfsi : List Scfsi) (behind : List Bool) (second : got scfsi behind ≡ scfsis_taken (listed a) ahead) where
       behind_scfsi : side_info_taken l bits ≡ with_scfsi l steps scfsi behind
       behind_scfsi = behind_fields ∙ then_got (with_scfsi l steps) (scfsis_taken (active_slots l steps) ahead) scfsi behind (slots_are ∙ sym second)
 

@@ -12,7 +12,6 @@ use Rattle.layout.specs.declared.AllocationField.{AllocationField}
 use Rattle.layout.specs.Slots.{slot_of}
 use Rattle.side_info_reading.specs.Taken.{Taken, got, refused, and_then, number_taken, laid, each_taken}
 use Rattle.audio_data.specs.declared.Scfsi.{Scfsi}
-use Rattle.audio_data.specs.declared.ScfsiSlot.{ScfsiSlot}
 use Rattle.audio_data.specs.Scfsi.{of_code}
 use Rattle.side_info_reading.specs.Reading.{field_taken, scfsi_taken, in_slots}
 use Rattle.side_info_reading.proofs.TakenLaws.{then_got, then_refused, each_next, number_taken_lem}
@@ -64,12 +63,12 @@ place_small width place bits rest h e = lt_of_lt_of_le (number_taken_lem width b
 
 -- ---- a scfsi
 
-abbrev as_slot : ℕ → List Bool → Taken ScfsiSlot
-as_slot code = got (record { scfsi = of_code code })
+abbrev as_slot : ℕ → List Bool → Taken Scfsi
+as_slot code = got (of_code code)
 
 pub scfsi_got : (slot : ℕ) (bits rest : List Bool) (code : ℕ) (s : Scfsi) → number_taken 2 bits ≡ got code rest → s ≡ of_code code
-    → scfsi_taken slot bits ≡ got (record { scfsi = s }) rest
-scfsi_got slot bits rest code s e v = then_got as_slot (number_taken 2 bits) code rest e ∙ ap (λ (t : Scfsi). got (record { scfsi = t }) rest) (sym v)
+    → scfsi_taken slot bits ≡ got (s) rest
+scfsi_got slot bits rest code s e v = then_got as_slot (number_taken 2 bits) code rest e ∙ ap (λ (t : Scfsi). got (t) rest) (sym v)
 
 pub scfsi_refused : (slot : ℕ) (bits : List Bool) (n : ℕ) → number_taken 2 bits ≡ refused n → scfsi_taken slot bits ≡ refused n
 scfsi_refused slot bits n e = then_refused as_slot (number_taken 2 bits) n e

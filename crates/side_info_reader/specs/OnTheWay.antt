@@ -8,10 +8,9 @@ use Rattle.bit_string.specs.Bits.{unpacked}
 use Rattle.audio_data.specs.Scfsi.{Three, three}
 use Rattle.side_info_reading.specs.Taken.{Taken, got, refused}
 use Rattle.side_info_reading.specs.Reading.{side_info_taken}
-use Rattle.side_info_reading.specs.declared.ReadSideInfo.{ReadSideInfo}
-use Rattle.side_info_reading.specs.Read.{read_by}
+use Rattle.side_info_reading.specs.Read.{ReadAnswer, read_by}
 use Rattle.side_info_reader.specs.declared.ReadError.{ReadError}
-use Rattle.side_info_reader.specs.Errors.{question_number}
+use Rattle.side_info_reader.specs.Errors.{error_number}
 
 pub record StepsAt (t : BitAllocTable) (sb place r : ℕ) : Type 0 where
   pub whole : r ≡ get_or (row_of t sb) place 0
@@ -24,9 +23,9 @@ three_in indices = three (get_or indices 0 0) (get_or indices 1 0) (get_or indic
 
 abbrev pub three_by : Result (List ℕ) ReadError → List Bool → Taken Three
 three_by (Ok indices) rest = got (three_in indices) rest
-three_by (Err e) rest = refused (question_number e)
+three_by (Err e) rest = refused (error_number e)
 
 -- ---- the answer in the layout of an accepted header
 
-unfoldable pub read_under : Layout → List ℕ → ReadSideInfo
+unfoldable pub read_under : Layout → List ℕ → ReadAnswer
 read_under l bytes = read_by (unpacked bytes) (side_info_taken l (unpacked bytes))

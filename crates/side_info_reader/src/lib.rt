@@ -2,27 +2,38 @@
 #![tactic(auto)]
 
 ghost use Rattle.std.specs.Prelude.{◌≡◌, ◌≤◌, ◌<◌, length, MatchResult};
-ghost use Rattle.active_slots.specs.Active.{SlotsIn, listed};
+ghost use Rattle.active_slots.specs.Active.{listed};
 ghost use Rattle.side_info_reading.specs.Taken.{laid};
 ghost use Rattle.side_info_reading.specs.Reading.{in_slots, in_granules, nothing, allocation_taken, scfsis_taken, scalefactors_taken, index_taken, three_taken};
-ghost use Rattle.side_info_reading.specs.Read.{read, ReadIs};
-ghost use Rattle.side_info_reader.specs.Errors.{question_number, taken_by};
+ghost use Rattle.side_info_reading.specs.Read.{ReadIs};
+ghost use Rattle.side_info_reader.specs.declared.ReadError.TheVariants.{Header};
+ghost use Rattle.side_info_reader.specs.Errors.{error_number, taken_by, read_in};
 ghost use Rattle.side_info_reader.specs.OnTheWay.{StepsAt, three_in, three_by, read_under};
 
 use active_slots::ActiveSlots;
-use audio_data::{Scfsi, ScfsiSlot};
+use audio_data::Scfsi;
 use bitalloc::BitAllocTable;
+use encoder_bit_budget::BitAllocError;
 use header::FrameHeader;
 use layout::{AllocationField, Layout};
-use side_info_reading::ReadSideInfo;
+use side_info::SideInfo;
 
 mod bit_reader;
 
 use bit_reader::BitReader;
 
+// What is read of a frame's bytes: the record, and how many bits were used. Idle slots have no steps, `ThreePerGranule` and indices 0.
+#[derive(Clone, Copy)]
+pub struct ReadSideInfo {
+    pub info: SideInfo,
+    pub bits_used: u32,
+}
+
 // Why bytes are not read.
-#[derive(Clone, Copy, PartialEq, Eq)]
-enum ReadError {
+#[derive(Clone, Copy, Debug, PartialEq, Eq)]
+pub enum ReadError {
+    // The header has no budget.
+    Header(BitAllocError),
     // The bytes end before the side information does.
     EndOfBytes,
     // A scalefactor index is 63, which Table 3-B.1 does not have.
@@ -30,14 +41,23 @@ enum ReadError {
 }
 
 impl ReadError {
-    // The number of the question that says no.
-    fn number(self) -> u32
-        ensures { result ≡ question_number self }
+    // The answer's number.
+    pub fn number(self) -> u32
+        ensures { result ≡ error_number self }
     {
         match self {
+            ReadError::Header(error) => error.number(),
             ReadError::EndOfBytes => 9,
             ReadError::ReservedIndex => 10,
         }
+    }
+}
+
+impl From<BitAllocError> for ReadError {
+    ghost from_gives = { λ error refusal. refusal ≡ Header error };
+
+    fn from(error: BitAllocError) -> ReadError {
+        ReadError::Header(error)
     }
 }
 
@@ -81,26 +101,21 @@ fn read_allocation(layout: Layout, reader: &mut BitReader) -> Result<[u32; 64], 
 }
 
 // The scfsi of slots that send none.
-fn idle() -> [ScfsiSlot; 64]
+fn idle() -> [Scfsi; 64]
     ensures { result ≡ nothing.scfsi }
 {
-    [ScfsiSlot {
-        scfsi: Scfsi::ThreePerGranule,
-    }; 64]
+    [Scfsi::ThreePerGranule; 64]
 }
 
 // The scfsi of the active slots, two bits each.
-fn read_scfsi(active: ActiveSlots, reader: &mut BitReader) -> Result<[ScfsiSlot; 64], ReadError>
-    requires { SlotsIn active }
+fn read_scfsi(active: ActiveSlots, reader: &mut BitReader) -> Result<[Scfsi; 64], ReadError>
     ensures taken { taken_by result reader.new.ahead ≡ scfsis_taken (listed active) reader.old.ahead }
     ensures all { reader.new.all ≡ reader.old.all }
 {
     let mut scfsi = idle();
-    for slot in &active.slots[..active.count] {
+    for slot in active.as_slice() {
         let code = reader.take(2)?;
-        scfsi[usize::from(*slot)] = ScfsiSlot {
-            scfsi: Scfsi::of_code(code as u8),
-        };
+        scfsi[usize::from(*slot)] = Scfsi::of_code(code as u8);
     }
     Ok(scfsi)
 }
@@ -155,72 +170,45 @@ fn put_three(slot: usize, indices: [u8; 3], scalefactor: &mut [u8; 192])
 // The scalefactors of the active slots.
 fn read_scalefactors(
     active: ActiveSlots,
-    scfsi: [ScfsiSlot; 64],
+    scfsi: &[Scfsi; 64],
     reader: &mut BitReader,
 ) -> Result<[u8; 192], ReadError>
-    requires { SlotsIn active }
-    ensures taken { taken_by result reader.new.ahead ≡ scalefactors_taken scfsi (listed active) reader.old.ahead }
+    ensures taken { taken_by result reader.new.ahead ≡ scalefactors_taken scfsi.now (listed active) reader.old.ahead }
     ensures all { reader.new.all ≡ reader.old.all }
 {
     let mut scalefactor = [0; 192];
-    for slot in &active.slots[..active.count] {
+    for slot in active.as_slice() {
         let slot = usize::from(*slot);
-        let at_slot = scfsi[slot];
-        let indices = read_three(at_slot.scfsi, reader)?;
+        let indices = read_three(scfsi[slot], reader)?;
         put_three(slot, indices, &mut scalefactor);
     }
     Ok(scalefactor)
 }
 
-// A refusal.
-fn refused(number: u32) -> ReadSideInfo
-    ensures { result ≡ read number nothing 0 }
-{
-    ReadSideInfo {
-        number,
-        nb_steps: [0; 64],
-        scfsi: idle(),
-        scalefactor: [0; 192],
-        bits_used: 0,
-    }
-}
-
 // The three sections in the layout of an accepted header.
-fn read_sections(layout: Layout, bytes: &[u8]) -> Result<ReadSideInfo, ReadError>
-    ensures { MatchResult result (λ r. r ≡ read_under layout bytes.now) (λ e. read (question_number e) nothing 0 ≡ read_under layout bytes.now) }
+fn read_under(layout: Layout, bytes: &[u8]) -> Result<ReadSideInfo, ReadError>
+    ensures { read_in result ≡ read_under layout bytes.now }
 {
     let mut reader = BitReader::new(bytes);
-    let nb_steps = read_allocation(layout, &mut reader)?;
-    let active = active_slots::active_slots(layout, nb_steps);
+    let steps = read_allocation(layout, &mut reader)?;
+    let active = active_slots::active_slots(layout, steps);
     let scfsi = read_scfsi(active, &mut reader)?;
-    let scalefactor = read_scalefactors(active, scfsi, &mut reader)?;
+    let scalefactors = read_scalefactors(active, &scfsi, &mut reader)?;
     Ok(ReadSideInfo {
-        number: 0,
-        nb_steps,
-        scfsi,
-        scalefactor,
+        info: SideInfo {
+            steps,
+            scfsi,
+            scalefactors,
+        },
         bits_used: reader.bits_used(),
     })
 }
 
-// The answer in the layout of an accepted header.
-fn read_under(layout: Layout, bytes: &[u8]) -> ReadSideInfo
-    ensures { result ≡ read_under layout bytes.now }
+// The side information at the front of bytes that start at the first allocation bit, most significant bit first. What stands behind the bits used is not
+// looked at.
+pub fn read_side_info(header: FrameHeader, bytes: &[u8]) -> Result<ReadSideInfo, ReadError>
+    ensures { ReadIs header bytes.now (read_in result) }
 {
-    match read_sections(layout, bytes) {
-        Ok(read) => read,
-        Err(error) => refused(error.number()),
-    }
-}
-
-// The side information at the front of bytes that start at the first allocation bit, most significant bit first: steps and scfsi by slot, scalefactor indices
-// at 3 * slot + granule. What stands behind the bits used is not looked at.
-pub fn read_side_info(header: FrameHeader, bytes: &[u8]) -> ReadSideInfo
-    ensures { ReadIs header bytes.now result }
-{
-    let budget = encoder_bit_budget::fixed_bit_budget(header);
-    match budget {
-        Ok(b) => read_under(b.layout(), bytes),
-        Err(error) => refused(error.number()),
-    }
+    let budget = encoder_bit_budget::fixed_bit_budget(header)?;
+    read_under(budget.layout(), bytes)
 }

@@ -12,7 +12,8 @@ use Rattle.layout.specs.declared.Layout.{Layout}
 use Rattle.layout.specs.declared.AllocationField.{AllocationField}
 use Rattle.layout.specs.Layout.{served, fields_of, field_steps, slots_of}
 use Rattle.audio_data.specs.Scfsi.{Three, three}
-use Rattle.side_info.specs.SideInfo.{SideInfo, side_info, scfsi_in, scalefactors_in, active_slots, allocation_field_bits, scfsi_bits, scalefactor_bits, side_info_bits, tabled, idle_scfsi}
+use Rattle.side_info.specs.declared.SideInfo.{SideInfo}
+use Rattle.side_info.specs.SideInfo.{side_info, scfsi_in, scalefactors_in, active_slots, allocation_field_bits, scfsi_bits, scalefactor_bits, side_info_bits, tabled, idle_scfsi}
 use Rattle.side_info_reading.specs.Taken.{got}
 use Rattle.side_info_reading.specs.Reading.{field_taken, scfsi_taken, three_taken, in_slots, in_slot, in_granules, nothing, allocation_taken, scfsis_taken, scalefactors_taken, with_scfsi, with_steps, side_info_taken}
 use Rattle.side_info_reading.specs.Read.{Restorable}
@@ -62,7 +63,7 @@ module _ (l : Layout) (r : SideInfo) (whole : Restorable l r) (yes : RecordYes l
       (λ slot h. record { taken = scfsi_sent slot (get_or r.scfsi slot idle_scfsi); held = ((rw whole.scfsi_long h, refl), tt) })
       active (active_below l r.steps))
       (length-replicate 64 idle_scfsi ∙ sym whole.scfsi_long)
-      (or_else idle_scfsi 64 r.scfsi _ active (alone active) (λ k e. let i = (whole.idle k e).0 in λ j. record { scfsi = i j }))
+      (or_else idle_scfsi 64 r.scfsi _ active (alone active) (λ k e. let i = (whole.idle k e).0 in λ j. i j))
 
   -- ---- the scalefactors
 

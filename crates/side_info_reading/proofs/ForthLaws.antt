@@ -10,9 +10,9 @@ use Rattle.tables.proofs.Listed.{blank}
 use Rattle.layout.specs.declared.Layout.{Layout}
 use Rattle.layout.specs.Layout.{served, fields_of, field_steps}
 use Rattle.audio_data.specs.declared.Scfsi.{Scfsi}
-use Rattle.audio_data.specs.declared.ScfsiSlot.{ScfsiSlot}
 use Rattle.audio_data.specs.Scfsi.{Three, three}
-use Rattle.side_info.specs.SideInfo.{SideInfo, side_info, active_slots, allocation_field_bits, scfsi_bits, scalefactor_bits, side_info_bits, idle_scfsi}
+use Rattle.side_info.specs.declared.SideInfo.{SideInfo}
+use Rattle.side_info.specs.SideInfo.{side_info, active_slots, allocation_field_bits, scfsi_bits, scalefactor_bits, side_info_bits, idle_scfsi}
 use Rattle.side_info_reading.specs.Taken.{got}
 use Rattle.side_info_reading.specs.Reading.{field_taken, scfsi_taken, three_taken, in_slots, in_slot, in_granules, nothing, allocation_taken, scfsis_taken, scalefactors_taken, with_scfsi, with_steps, side_info_taken}
 use Rattle.side_info_reading.specs.Read.{Restorable}
@@ -48,14 +48,14 @@ each_any : (slots : List ℕ) → Each Any slots
 each_any [] = tt
 each_any (s ∷ slots) = (tt, each_any slots)
 
-abbrev ScfsiForth : List ℕ → List Bool → List ScfsiSlot → List Bool → Type 0
+abbrev ScfsiForth : List ℕ → List Bool → List Scfsi → List Bool → Type 0
 ScfsiForth slots bits scfsi rest =
     Forth scfsi_taken in_slot idle_scfsi (λ slot. slot ∷ []) (λ slot s. refl) (λ slot. scfsi_wire) Any (λ slot s. Unit {0})
     (λ slot able bits s rest e. (scfsi_took slot bits s rest e, tt)) (λ cells slot. get_or cells slot idle_scfsi) (λ cells slot able s h. h.0.1)
     slots (replicate 64 idle_scfsi) bits scfsi rest
 
 module _ (slots : List ℕ) (different : Distinct slots) (small : Each (λ k. k < 64) slots) where
-  scfsi_forth : (bits : List Bool) (scfsi : List ScfsiSlot) (rest : List Bool) → scfsis_taken slots bits ≡ got scfsi rest → ScfsiForth slots bits scfsi rest
+  scfsi_forth : (bits : List Bool) (scfsi : List Scfsi) (rest : List Bool) → scfsis_taken slots bits ≡ got scfsi rest → ScfsiForth slots bits scfsi rest
   unfolding nothing
   scfsi_forth bits scfsi rest e =
       each_forth scfsi_taken in_slot idle_scfsi (λ slot. slot ∷ []) (λ slot s. refl) (λ slot. scfsi_wire) Any (λ slot s. Unit {0})
@@ -65,9 +65,9 @@ module _ (slots : List ℕ) (different : Distinct slots) (small : Each (λ k. k 
 
   -- ---- the scalefactors
 
-  module _ (scfsi : List ScfsiSlot) where
+  module _ (scfsi : List Scfsi) where
     abbrev scfsi_of : ℕ → Scfsi
-    scfsi_of slot = (get_or scfsi slot idle_scfsi).scfsi
+    scfsi_of slot = (get_or scfsi slot idle_scfsi)
 
     abbrev three_in : List ℕ → ℕ → Three
     three_in cells slot = three (get_or cells (3 * slot) 0) (get_or cells (3 * slot + 1) 0) (get_or cells (3 * slot + 2) 0)
@@ -95,7 +95,7 @@ pub record WasWritten (l : Layout) (bits : List Bool) (r : SideInfo) (rest : Lis
   pub yes : RecordYes l r
   pub whole : Restorable l r
 
-module _ (l : Layout) (bits behind_fields behind_scfsi rest : List Bool) (steps : List ℕ) (scfsi : List ScfsiSlot) (scalefactors : List ℕ) where
+module _ (l : Layout) (bits behind_fields behind_scfsi rest : List Bool) (steps : List ℕ) (scfsi : List Scfsi) (scalefactors : List ℕ) where
   abbrev r : SideInfo
   r = side_info steps scfsi scalefactors
 
@@ -129,7 +129,7 @@ module _ (l : Layout) (bits behind_fields behind_scfsi rest : List Bool) (steps 
       scalefactors_long = c.long ∙ length-replicate {A = ℕ} 192 0;
       agrees = λ slot e. each_one (λ k. _) active slot (each_map _ _ (λ slot g. g.kept.agrees) active c.found) e;
       idle = λ slot e. (
-        ap (λ (t : ScfsiSlot). t.scfsi) (s.elsewhere slot (ap (λ (ks : List ℕ). one_of ks slot) (alone active) ∙ e) ∙ blank 64 idle_scfsi slot),
+        ap (λ (t : Scfsi). t.scfsi) (s.elsewhere slot (ap (λ (ks : List ℕ). one_of ks slot) (alone active) ∙ e) ∙ blank 64 idle_scfsi slot),
         λ i. three (no_index slot e (3 * slot) (omega arith) i) (no_index slot e (3 * slot + 1) (omega arith) i) (no_index slot e (3 * slot + 2) (omega arith) i),
       );
       outside = λ slot e. f.elsewhere slot (ap (λ (ks : List ℕ). one_of ks slot) (slots_of_fields l) ∙ e) ∙ blank 64 0 slot;

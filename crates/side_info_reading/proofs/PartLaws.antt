@@ -20,7 +20,6 @@ use Rattle.layout.specs.Slots.{slot_of}
 use Rattle.layout.specs.Layout.{field_steps}
 use Rattle.audio_data.specs.declared.Scfsi.{Scfsi}
 use Rattle.audio_data.specs.declared.Scfsi.TheVariants.{ThreePerGranule, Share01Then2, ShareAll, Share0Then12}
-use Rattle.audio_data.specs.declared.ScfsiSlot.{ScfsiSlot}
 use Rattle.audio_data.specs.Scfsi.{code_of, of_code, parts_of, Three, three, sent, restored, Agrees}
 use Rattle.audio_data.proofs.ScfsiLaws.{comes_back, sent_count, of_code_lem}
 use Rattle.bit_string.specs.Bits.{bits_of}
@@ -109,7 +108,7 @@ module _ (steps : List ℕ) (x : AllocationField) where
 
 -- ---- a scfsi
 
-abbrev pub scfsi_wire : ScfsiSlot → List Bool
+abbrev pub scfsi_wire : Scfsi → List Bool
 scfsi_wire s = bits_of 2 (code_of s.scfsi)
 
 code_small : (s : Scfsi) → code_of s < 2 ^ 2
@@ -125,21 +124,21 @@ code_back (suc (suc zero)) h = refl
 code_back (suc (suc (suc zero))) h = refl
 code_back (suc (suc (suc (suc n)))) h = absurd (omega arith)
 
-abbrev as_slot : ℕ → List Bool → Taken ScfsiSlot
-as_slot code = got (record { scfsi = of_code code })
+abbrev as_slot : ℕ → List Bool → Taken Scfsi
+as_slot code = got (of_code code)
 
-pub scfsi_sent : (slot : ℕ) (s : ScfsiSlot) (rest : List Bool) → scfsi_taken slot (scfsi_wire s ++ rest) ≡ got s rest
+pub scfsi_sent : (slot : ℕ) (s : Scfsi) (rest : List Bool) → scfsi_taken slot (scfsi_wire s ++ rest) ≡ got s rest
 scfsi_sent slot s rest =
     then_got as_slot (number_taken 2 (bits_of 2 (code_of s.scfsi) ++ rest)) (code_of s.scfsi) rest (number_sent 2 (code_of s.scfsi) rest (code_small s.scfsi))
-    ∙ ap (λ (t : Scfsi). got (record { scfsi = t }) rest) (of_code_lem s.scfsi)
+    ∙ ap (λ (t : Scfsi). got (t) rest) (of_code_lem s.scfsi)
 
-pub scfsi_took : (slot : ℕ) (bits : List Bool) (s : ScfsiSlot) (rest : List Bool) → scfsi_taken slot bits ≡ got s rest → bits ≡ scfsi_wire s ++ rest
+pub scfsi_took : (slot : ℕ) (bits : List Bool) (s : Scfsi) (rest : List Bool) → scfsi_taken slot bits ≡ got s rest → bits ≡ scfsi_wire s ++ rest
 scfsi_took slot bits s rest e =
     let b = between as_slot (number_taken 2 bits) s rest e in
     let t = number_taken_lem 2 bits b.value b.rest b.first in
     t.front
     ∙ ap₂ (λ (n : ℕ) (bs : List Bool). bits_of 2 n ++ bs)
-    (sym (code_back b.value t.small) ∙ ap (λ (u : ScfsiSlot). code_of u.scfsi) (same_value b.second)) (same_rest b.second)
+    (sym (code_back b.value t.small) ∙ ap (λ (u : Scfsi). code_of u.scfsi) (same_value b.second)) (same_rest b.second)
 
 -- ---- scalefactors
 

@@ -19,14 +19,13 @@ use Rattle.layout.specs.Layout.{fields_of}
 use Rattle.audio_data.specs.Scfsi.{of_code, parts_of, restored}
 use Rattle.bit_string.specs.Bits.{front, packed, unpacked}
 use Rattle.bit_string.proofs.PackLaws.{unpacked_packed}
-use Rattle.side_info.specs.SideInfo.{SideInfo, side_info, header_layout, active_slots, side_info_bits, record_asked, idle_scfsi}
+use Rattle.side_info.specs.declared.SideInfo.{SideInfo}
+use Rattle.side_info.specs.SideInfo.{side_info, header_layout, active_slots, side_info_bits, record_asked, idle_scfsi}
 use Rattle.side_info.proofs.CountLaws.{most}
-use Rattle.side_info_writer.specs.declared.WrittenSideInfo.{WrittenSideInfo}
-use Rattle.side_info_writer.specs.Written.{written, where_zero, writer_asked, written_of}
-use Rattle.side_info_reading.specs.declared.ReadSideInfo.{ReadSideInfo}
+use Rattle.side_info_writer.specs.Written.{WrittenAnswer, written, where_zero, writer_asked, written_of}
 use Rattle.side_info_reading.specs.Taken.{Taken, got, refused, and_then, number_taken, laid, each_taken}
 use Rattle.side_info_reading.specs.Reading.{field_taken, scfsi_taken, index_taken, indices_taken, three_taken, in_slots, in_slot, in_granules, nothing, allocation_taken, scfsis_taken, scalefactors_taken, with_scfsi, with_steps, side_info_taken}
-use Rattle.side_info_reading.specs.Read.{read, read_by, read_of, record_in, Restorable, ReadIs}
+use Rattle.side_info_reading.specs.Read.{ReadAnswer, read, read_by, read_of, Restorable, ReadIs}
 use Rattle.side_info.proofs.AskedLaws.{record_yes, record_passes}
 use Rattle.side_info_reading.proofs.BackLaws.{comes_back}
 use Rattle.side_info_reading.proofs.ForthLaws.{WasWritten, read_was_written}
@@ -78,11 +77,11 @@ taken_refusing l bits =
     (each_refusing (field_taken l) in_slots (λ x bits. then_refusing (number_taken (nbal_of l.table x.subband) bits) (λ p. got (get_or (row_of l.table x.subband) p 0))
     (number_refusing (nbal_of l.table x.subband) bits) (λ p rest. tt)) (fields_of l) nothing.steps bits)
     (λ steps rest. then_refusing (scfsis_taken (active_slots l steps) rest) (with_scfsi l steps)
-    (each_refusing scfsi_taken in_slot (λ x bits. then_refusing (number_taken 2 bits) (λ code. got (record { scfsi = of_code code })) (number_refusing 2 bits) (λ p rest. tt))
+    (each_refusing scfsi_taken in_slot (λ x bits. then_refusing (number_taken 2 bits) (λ code. got (of_code code)) (number_refusing 2 bits) (λ p rest. tt))
     (active_slots l steps) nothing.scfsi rest)
     (λ scfsi rest. then_refusing (scalefactors_taken scfsi (active_slots l steps) rest) (λ scalefactors. got (side_info steps scfsi scalefactors))
-    (each_refusing (λ slot. three_taken (get_or scfsi slot idle_scfsi).scfsi) in_granules
-    (λ x bits. let s = (get_or scfsi x idle_scfsi).scfsi in then_refusing (indices_taken (parts_of s) bits) (λ is. got (restored s is)) (indices_refusing (parts_of s) bits) (λ p rest. tt))
+    (each_refusing (λ slot. three_taken (get_or scfsi slot idle_scfsi)) in_granules
+    (λ x bits. let s = (get_or scfsi x idle_scfsi) in then_refusing (indices_taken (parts_of s) bits) (λ is. got (restored s is)) (indices_refusing (parts_of s) bits) (λ p rest. tt))
     (active_slots l steps) nothing.scalefactors rest)
     (λ scalefactors rest. tt)))
 
@@ -136,14 +135,14 @@ module _ (h : FrameHeader) where
     slice = unpacked bytes
 
     -- an accepted answer
-    record Accepted (r : ReadSideInfo) : Type 0 where
+    record Accepted (r : ReadAnswer) : Type 0 where
       pub record_read : SideInfo
       pub rest : List Bool
       pub zero : number (header_asked h) ≡ 0
       pub was : WasWritten l slice record_read rest
       pub is : r ≡ read 0 record_read (length (side_info_bits l record_read))
 
-    accepted : (r : ReadSideInfo) → r ≡ read_of h bytes → r.number ≡ 0 → Accepted r
+    accepted : (r : ReadAnswer) → r ≡ read_of h bytes → r.number ≡ 0 → Accepted r
     unfolding read_of
     accepted r e z = header (eqb (number (header_asked h)) 0) refl (e, z)
       where
@@ -155,14 +154,14 @@ module _ (h : FrameHeader) where
             let w = read_was_written l slice s rest q in
             record { record_read = s; rest = rest; zero = n; was = w; is = a.0 ∙ ap (read 0 s) (used bytes (side_info_bits l s) rest w.sent) }
         body n (refused m) q f a =
-            absurd (true≢false (sym (eq-eqb m 0 (sym (ap (λ (v : ReadSideInfo). v.number) a.0) ∙ a.1)) ∙ f))
+            absurd (true≢false (sym (eq-eqb m 0 (sym (ap (λ (v : ReadAnswer). v.number) a.0) ∙ a.1)) ∙ f))
 
         header : (b : Bool) → eqb (number (header_asked h)) 0 ≡ b → Answers (cond b (side_info_taken l slice) (refused (number (header_asked h)))) → Accepted r
         header true q a = body (eqb-true (number (header_asked h)) 0 q) (side_info_taken l slice) refl (taken_refusing l slice) a
         header false q a =
-            absurd (true≢false (sym (eq-eqb (number (header_asked h)) 0 (sym (ap (λ (v : ReadSideInfo). v.number) a.0) ∙ a.1)) ∙ q))
+            absurd (true≢false (sym (eq-eqb (number (header_asked h)) 0 (sym (ap (λ (v : ReadAnswer). v.number) a.0) ∙ a.1)) ∙ q))
 
-    module _ (r : ReadSideInfo) (a : Accepted r) where
+    module _ (r : ReadAnswer) (a : Accepted r) where
       abbrev s : SideInfo
       s = a.record_read
 
@@ -170,7 +169,7 @@ module _ (h : FrameHeader) where
       sent = side_info_bits l s
 
       count : r.bits_used ≡ length sent
-      count = ap (λ (v : ReadSideInfo). v.bits_used) a.is
+      count = ap (λ (v : ReadAnswer). v.bits_used) a.is
 
       first : take r.bits_used slice ≡ sent
       first = ap₂ take count a.was.sent ∙ take_at sent a.rest (length sent) refl
@@ -178,16 +177,16 @@ module _ (h : FrameHeader) where
       asked : number (record_asked l s) ≡ 0
       asked = record_passes l s a.was.yes
 
-      written_again : written_of h (record_in r) ≡ written 0 (take r.bits_used slice)
+      written_again : written_of h r.info ≡ written 0 (take r.bits_used slice)
       written_again =
-          ap (λ (v : ReadSideInfo). written_of h (record_in v)) a.is ∙ written_zero s (rest_decides s a.zero ∙ asked) ∙ ap (written 0) (sym first)
+          ap (λ (v : ReadAnswer). written_of h v.info) a.is ∙ written_zero s (rest_decides s a.zero ∙ asked) ∙ ap (written 0) (sym first)
 
     -- whatever the answer: at most the bits of a record, which are at the front
-    record Few (r : ReadSideInfo) : Type 0 where
+    record Few (r : ReadAnswer) : Type 0 where
       pub most : r.bits_used ≤ 1388
       pub within : r.bits_used ≤ length slice
 
-    few : (r : ReadSideInfo) → r ≡ read_of h bytes → Few r
+    few : (r : ReadAnswer) → r ≡ read_of h bytes → Few r
     unfolding read_of
     few r e = subst Few (sym e) (header (eqb (number (header_asked h)) 0))
       where
@@ -203,20 +202,20 @@ module _ (h : FrameHeader) where
 
     -- ---- the promises
 
-    pub promises : (r : ReadSideInfo) → r ≡ read_of h bytes → ReadIs h bytes r
+    pub promises : (r : ReadAnswer) → r ≡ read_of h bytes → ReadIs h bytes r
     promises r e = record {
       whole = e;
       back = λ s z whole alike.
           let asked = zero_asked s z in
           let w = written_zero s asked in
-          let n : (written_of h s).bits_used ≡ length (side_info_bits l s) = ap (λ (v : WrittenSideInfo). v.bits_used) w in
-          let b : (written_of h s).bytes ≡ packed 174 (side_info_bits l s) = ap (λ (v : WrittenSideInfo). v.bytes) w in
+          let n : (written_of h s).bits_used ≡ length (side_info_bits l s) = ap (λ (v : WrittenAnswer). v.bits_used) w in
+          let b : (written_of h s).bytes ≡ packed 174 (side_info_bits l s) = ap (λ (v : WrittenAnswer). v.bytes) w in
           let header = both_zero (header_asked h) (record_asked l s) asked in
           e ∙ reads bytes s header (sym (rest_decides s header) ∙ asked) whole
           (ap (λ (k : ℕ). take k slice) (sym n) ∙ alike ∙ ap₂ (λ (k : ℕ) (bs : List ℕ). take k (unpacked bs)) n b ∙ bits_back (side_info_bits l s) (most l s))
           ∙ ap (read 0 s) (sym n);
       again = λ z. written_again r (accepted r e z);
-      restorable = λ z. let a = accepted r e z in subst (λ (v : ReadSideInfo). Restorable l (record_in v)) (sym a.is) a.was.whole;
+      restorable = λ z. let a = accepted r e z in subst (λ (v : ReadAnswer). Restorable l v.info) (sym a.is) a.was.whole;
       alone = λ z other alike.
           let a = accepted r e z in
           reads other a.record_read a.zero (asked r a) a.was.whole (ap (λ (k : ℕ). take k (unpacked other)) (sym (count r a)) ∙ alike ∙ first r a) ∙ sym a.is;

@@ -8,24 +8,29 @@ use Rattle.layout.specs.declared.Layout.{Layout}
 use Rattle.audio_data.specs.declared.Scfsi.TheVariants.{ThreePerGranule}
 use Rattle.audio_data.specs.Scfsi.{three}
 use Rattle.bit_string.specs.Bits.{unpacked}
-use Rattle.side_info.specs.SideInfo.{SideInfo, side_info, scfsi_in, scalefactors_in, header_layout, active_slots}
+use Rattle.side_info.specs.declared.SideInfo.{SideInfo}
+use Rattle.side_info.specs.SideInfo.{side_info, scfsi_in, scalefactors_in, header_layout, active_slots}
 use Rattle.record_check.specs.Together.{StepsCarried, IndicesShared}
 use Rattle.side_info_writer.specs.Written.{written, written_of}
-use Rattle.side_info_reading.specs.declared.ReadSideInfo.{ReadSideInfo}
 use Rattle.side_info_reading.specs.Taken.{Taken, got, refused}
 use Rattle.side_info_reading.specs.Reading.{nothing, side_info_taken}
 
 -- an answer: its number, the record, and how many bits it took
-abbrev pub read : ℕ → SideInfo → ℕ → ReadSideInfo
-read n s used = record { number = n; nb_steps = s.steps; scfsi = s.scfsi; scalefactor = s.scalefactors; bits_used = used }
+pub record ReadAnswer : Type 0 where
+  pub number : ℕ
+  pub info : SideInfo
+  pub bits_used : ℕ
+
+abbrev pub read : ℕ → SideInfo → ℕ → ReadAnswer
+read n s used = record { number = n; info = s; bits_used = used }
 
 -- by what was taken of the bits: those used are no longer there; beside a refusal nothing is read
-abbrev pub read_by : List Bool → Taken SideInfo → ReadSideInfo
+abbrev pub read_by : List Bool → Taken SideInfo → ReadAnswer
 read_by bits (got s rest) = read 0 s (length bits - length rest)
 read_by bits (refused n) = read n nothing 0
 
 -- the header's questions, then what stands at the front of the bytes' bits in the header's layout
-unfoldable pub read_of : FrameHeader → List ℕ → ReadSideInfo
+unfoldable pub read_of : FrameHeader → List ℕ → ReadAnswer
 unfolding nothing side_info_taken unpacked
 read_of h bytes =
     let n = number (header_asked h) in
@@ -33,10 +38,6 @@ read_of h bytes =
     read_by bits (cond (eqb n 0) (side_info_taken (header_layout h) bits) (refused n))
 
 -- ---- what `read_side_info` promises
-
--- the record that was read
-abbrev pub record_in : ReadSideInfo → SideInfo
-record_in r = side_info r.nb_steps r.scfsi r.scalefactor
 
 -- A record that loses nothing in bits, if the writer accepts it: 64 slots, of which the active ones agree with the sharing that their scfsi states and
 -- the others hold what an idle slot reads as, and no steps where the layout has no slot.
@@ -52,16 +53,16 @@ pub record Restorable (l : Layout) (s : SideInfo) : Type 0 where
 abbrev pub Alike : ℕ → List ℕ → List ℕ → Type 0
 Alike n bytes other = take n (unpacked bytes) ≡ take n (unpacked other)
 
-pub record ReadIs (h : FrameHeader) (bytes : List ℕ) (r : ReadSideInfo) : Type 0 where
+pub record ReadIs (h : FrameHeader) (bytes : List ℕ) (r : ReadAnswer) : Type 0 where
   -- the whole answer
   pub whole : r ≡ read_of h bytes
   -- what is written of a record that can be restored comes back, whatever stands behind its bits
   pub back : (s : SideInfo) → (written_of h s).number ≡ 0 → Restorable (header_layout h) s → Alike (written_of h s).bits_used bytes (written_of h s).bytes
       → r ≡ read 0 s (written_of h s).bits_used
   -- what is read is accepted by the writer, which gives the bits that were used, and zeros behind them
-  pub again : r.number ≡ 0 → written_of h (record_in r) ≡ written 0 (take r.bits_used (unpacked bytes))
+  pub again : r.number ≡ 0 → written_of h r.info ≡ written 0 (take r.bits_used (unpacked bytes))
   -- it can be restored
-  pub restorable : r.number ≡ 0 → Restorable (header_layout h) (record_in r)
+  pub restorable : r.number ≡ 0 → Restorable (header_layout h) r.info
   -- nothing behind the bits used is looked at
   pub alone : r.number ≡ 0 → (other : List ℕ) → Alike r.bits_used other bytes → read_of h other ≡ r
   -- the bits used are there, and never more than 1388

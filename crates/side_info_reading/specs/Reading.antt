@@ -6,9 +6,9 @@ use Rattle.layout.specs.declared.AllocationField.{AllocationField}
 use Rattle.layout.specs.Slots.{slot_of}
 use Rattle.layout.specs.Layout.{served, fields_of}
 use Rattle.audio_data.specs.declared.Scfsi.{Scfsi}
-use Rattle.audio_data.specs.declared.ScfsiSlot.{ScfsiSlot}
 use Rattle.audio_data.specs.Scfsi.{Three, of_code, parts_of, restored}
-use Rattle.side_info.specs.SideInfo.{SideInfo, side_info, idle_scfsi, active_slots}
+use Rattle.side_info.specs.declared.SideInfo.{SideInfo}
+use Rattle.side_info.specs.SideInfo.{side_info, idle_scfsi, active_slots}
 use Rattle.side_info_reading.specs.Taken.{Taken, got, refused, and_then, number_taken, each_taken}
 
 -- ---- the fields
@@ -18,8 +18,8 @@ abbrev pub field_taken : Layout → AllocationField → List Bool → Taken ℕ
 field_taken l x bits = and_then (number_taken (nbal_of l.table x.subband) bits) (λ place. got (get_or (row_of l.table x.subband) place 0))
 
 -- a scfsi: two bits, whichever the slot
-abbrev pub scfsi_taken : ℕ → List Bool → Taken ScfsiSlot
-scfsi_taken slot bits = and_then (number_taken 2 bits) (λ code. got (record { scfsi = of_code code }))
+abbrev pub scfsi_taken : ℕ → List Bool → Taken Scfsi
+scfsi_taken slot bits = and_then (number_taken 2 bits) (λ code. got (of_code code))
 
 -- a scalefactor index: six bits; Table 3-B.1 ends at 62, and 63 is refused
 abbrev pub index_taken : List Bool → Taken ℕ
@@ -41,7 +41,7 @@ abbrev pub in_slots : AllocationField → ℕ → List (ℕ × ℕ)
 in_slots x steps = map (λ ch. (slot_of ch x.subband, steps)) (served x)
 
 -- a slot's scfsi
-abbrev pub in_slot : ℕ → ScfsiSlot → List (ℕ × ScfsiSlot)
+abbrev pub in_slot : ℕ → Scfsi → List (ℕ × Scfsi)
 in_slot slot s = (slot, s) ∷ []
 
 -- a slot's scalefactors: one for each granule
@@ -59,16 +59,16 @@ abbrev pub allocation_taken : Layout → List Bool → Taken (List ℕ)
 allocation_taken l bits = each_taken (field_taken l) in_slots (fields_of l) nothing.steps bits
 
 -- the scfsi of slots
-abbrev pub scfsis_taken : List ℕ → List Bool → Taken (List ScfsiSlot)
+abbrev pub scfsis_taken : List ℕ → List Bool → Taken (List Scfsi)
 scfsis_taken slots bits = each_taken scfsi_taken in_slot slots nothing.scfsi bits
 
 -- their scalefactors
-abbrev pub scalefactors_taken : List ScfsiSlot → List ℕ → List Bool → Taken (List ℕ)
-scalefactors_taken scfsi slots bits = each_taken (λ slot. three_taken (get_or scfsi slot idle_scfsi).scfsi) in_granules slots nothing.scalefactors bits
+abbrev pub scalefactors_taken : List Scfsi → List ℕ → List Bool → Taken (List ℕ)
+scalefactors_taken scfsi slots bits = each_taken (λ slot. three_taken (get_or scfsi slot idle_scfsi)) in_granules slots nothing.scalefactors bits
 
 -- In the order of the bits: the allocation of every field, the scfsi of every active slot, the scalefactors of every active slot. `with_scfsi` and
 -- `with_steps` are what comes behind scfsi and behind the allocation.
-abbrev pub with_scfsi : Layout → List ℕ → List ScfsiSlot → List Bool → Taken SideInfo
+abbrev pub with_scfsi : Layout → List ℕ → List Scfsi → List Bool → Taken SideInfo
 with_scfsi l steps scfsi bits = and_then (scalefactors_taken scfsi (active_slots l steps) bits) (λ scalefactors. got (side_info steps scfsi scalefactors))
 
 abbrev pub with_steps : Layout → List ℕ → List Bool → Taken SideInfo

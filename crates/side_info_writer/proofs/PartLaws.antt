@@ -14,7 +14,8 @@ use Rattle.audio_data.specs.declared.Scfsi.{Scfsi}
 use Rattle.audio_data.specs.declared.Scfsi.TheVariants.{ThreePerGranule, Share01Then2, ShareAll, Share0Then12}
 use Rattle.audio_data.specs.Scfsi.{parts_of, Three, sent}
 use Rattle.bit_string.specs.Bits.{bits_of}
-use Rattle.side_info.specs.SideInfo.{SideInfo, tabled, allocation_field_bits}
+use Rattle.side_info.specs.declared.SideInfo.{SideInfo}
+use Rattle.side_info.specs.SideInfo.{tabled, allocation_field_bits}
 use Rattle.side_info.proofs.CountLaws.{fields_count}
 use Rattle.side_info.proofs.FlatLaws.{flat_next, flat_end}
 use Rattle.side_info_writer.specs.OnTheWay.{where_sent}

@@ -20,7 +20,8 @@ use Rattle.layout.specs.Slots.{slot_of}
 use Rattle.layout.specs.Layout.{field_steps}
 use Rattle.bit_string.specs.Bits.{bits_of}
 use Rattle.bit_string.proofs.BitLaws.{length_bits}
-use Rattle.side_info.specs.SideInfo.{SideInfo, shared_asked, row_asked, field_asked, allocation_field_bits}
+use Rattle.side_info.specs.declared.SideInfo.{SideInfo}
+use Rattle.side_info.specs.SideInfo.{shared_asked, row_asked, field_asked, allocation_field_bits}
 use Rattle.side_info.proofs.ShareLaws.{shared_is}
 use Rattle.side_info_writer.specs.declared.WriteError.{WriteError}
 use Rattle.side_info_writer.specs.declared.WriteError.TheVariants.{StepsDiffer, StepsNotInRow}

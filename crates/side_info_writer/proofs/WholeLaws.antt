@@ -13,29 +13,29 @@ use Rattle.header.specs.Questions.{Question, number}
 use Rattle.header.proofs.QuestionLaws.{behind, all_yes, some_no}
 use Rattle.layout.specs.declared.Layout.{Layout}
 use Rattle.layout.specs.Layout.{fields_of, sum_over}
-use Rattle.audio_data.specs.declared.ScfsiSlot.{ScfsiSlot}
+use Rattle.audio_data.specs.declared.Scfsi.{Scfsi}
 use Rattle.encoder_bit_budget.specs.declared.FixedBitBudget.{FixedBitBudget}
 use Rattle.encoder_bit_budget.specs.declared.BitAllocError.{BitAllocError}
 use Rattle.encoder_bit_budget.specs.Budget.{plain, header_asked, error_number, budget_in, budget_of, layout_in}
 use Rattle.encoder_bit_budget.proofs.BudgetLaws.{refusing_header, apart, answer_is}
 use Rattle.bit_string.specs.Bits.{packed, unpacked}
 use Rattle.bit_string.proofs.PackLaws.{unpacked_packed}
-use Rattle.side_info.specs.SideInfo.{SideInfo, side_info, header_layout, active_slots, allocation_field_bits, scfsi_bits, scalefactor_bits, side_info_bits, field_asked, scalefactor_asked, record_asked, slot_count}
+use Rattle.side_info.specs.declared.SideInfo.{SideInfo}
+use Rattle.side_info.specs.SideInfo.{side_info, header_layout, active_slots, allocation_field_bits, scfsi_bits, scalefactor_bits, side_info_bits, field_asked, scalefactor_asked, record_asked, slot_count}
 use Rattle.side_info.proofs.CountLaws.{slots_count, slot_most, counted, most}
 use Rattle.side_info.proofs.FlatLaws.{sum_most}
 use Rattle.side_info.proofs.HeaderLaws.{same_layout}
-use Rattle.side_info_writer.specs.declared.WrittenSideInfo.{WrittenSideInfo}
-use Rattle.active_slots.specs.declared.ActiveSlots.{ActiveSlots}
+use Rattle.active_slots.specs.declared.slots.ActiveSlots.{ActiveSlots}
 use Rattle.side_info_writer.specs.declared.WriteError.{WriteError}
 use Rattle.side_info_writer.specs.declared.WriteError.TheVariants.{StepsDiffer, StepsNotInRow, IndexNotInTable}
-use Rattle.side_info_writer.specs.Written.{written, where_zero, writer_asked, written_of, WrittenIs}
+use Rattle.side_info_writer.specs.Written.{WrittenAnswer, written, where_zero, writer_asked, written_of, WrittenIs}
 use Rattle.side_info_writer.specs.OnTheWay.{question_number, Passed, Stopped, TabledAre, written_under}
 use Rattle.active_slots.specs.Active.{listed, ActiveAre}
 
 -- ---- behind the allocation
 
 -- the allocation fields have 188 bits at most, and the other sections 20 for each slot
-module _ (slots : List ℕ) (few : length slots ≤ 60) (scfsi : List ScfsiSlot) (scalefactors : List ℕ) (fields : List Bool) (near : length fields ≤ 188) where
+module _ (slots : List ℕ) (few : length slots ≤ 60) (scfsi : List Scfsi) (scalefactors : List ℕ) (fields : List Bool) (near : length fields ≤ 188) where
   abbrev scfsis : List Bool
   scfsis = flat_map (scfsi_bits (side_info [] scfsi [])) slots
 
@@ -56,7 +56,7 @@ module _ (slots : List ℕ) (few : length slots ≤ 60) (scfsi : List ScfsiSlot)
 
 -- ---- the answers in a layout
 
-module _ (l : Layout) (steps : List ℕ) (scfsi : List ScfsiSlot) (scalefactors : List ℕ) where
+module _ (l : Layout) (steps : List ℕ) (scfsi : List Scfsi) (scalefactors : List ℕ) where
   abbrev r : SideInfo
   r = side_info steps scfsi scalefactors
 
@@ -96,7 +96,7 @@ module _ (l : Layout) (steps : List ℕ) (scfsi : List ScfsiSlot) (scalefactors 
       → record { number = 0; bytes = bytes; bits_used = used } ≡ written_under l r
   accepted bits bytes used z e p u = (λ i. record { number = 0; bytes = p i; bits_used = u i }) ∙ ap (written 0) e ∙ under 0 z
 
-  pub not_written : (e : WriteError) (n : ℕ) (w : WrittenSideInfo) → number (record_asked l r) ≡ question_number e → n ≡ question_number e → w ≡ written n [] → w ≡ written_under l r
+  pub not_written : (e : WriteError) (n : ℕ) (w : WrittenAnswer) → number (record_asked l r) ≡ question_number e → n ≡ question_number e → w ≡ written n [] → w ≡ written_under l r
   not_written e n w z s made = made ∙ ap (λ (m : ℕ). written m []) s ∙ none e ∙ under (question_number e) z
     where
       none : (e : WriteError) → written (question_number e) [] ≡ written (question_number e) (where_zero (question_number e) (side_info_bits l r))
@@ -115,7 +115,7 @@ module _ (h : FrameHeader) (r : SideInfo) where
   of_number n e = ap (λ (m : ℕ). written m (where_zero m bits)) (sym e)
 
   -- the header is refused
-  pub from_refused : (e : BitAllocError) (n : ℕ) (w : WrittenSideInfo) → budget_in (Err e) ≡ budget_of (plain h 0) → n ≡ error_number e → w ≡ written n []
+  pub from_refused : (e : BitAllocError) (n : ℕ) (w : WrittenAnswer) → budget_in (Err e) ≡ budget_of (plain h 0) → n ≡ error_number e → w ≡ written n []
       → w ≡ written_of h r
   from_refused e n w p s made =
       let z : number (header_asked h) ≡ error_number e = sym (answer_is (plain h 0)) ∙ sym (ap (λ a. a.answer) p) in
@@ -128,7 +128,7 @@ module _ (h : FrameHeader) (r : SideInfo) where
 
   module _ (b : FixedBitBudget) (ok : budget_in (Ok b) ≡ budget_of (plain h 0)) where
     -- it is accepted
-    pub from_accepted : (l : Layout) (w : WrittenSideInfo) → l ≡ layout_in b → w ≡ written_under l r → w ≡ written_of h r
+    pub from_accepted : (l : Layout) (w : WrittenAnswer) → l ≡ layout_in b → w ≡ written_under l r → w ≡ written_of h r
     unfolding written_under
     from_accepted l w e made =
         let z : number (header_asked h) ≡ 0 = sym (answer_is (plain h 0)) ∙ sym (ap (λ a. a.answer) ok) in
@@ -147,15 +147,15 @@ module _ (h : FrameHeader) (r : SideInfo) where
   zeros_behind : (bs : List Bool) → length bs ≤ 1388 → drop (length bs) (unpacked (packed 174 bs)) ≡ replicate (8 * 174 - length bs) false
   zeros_behind bs m = ap (drop (length bs)) (unpacked_packed 174 bs (omega arith)) ∙ drop_at bs (replicate (8 * 174 - length bs) false) (length bs) refl
 
-  pub promises : (w : WrittenSideInfo) → w ≡ written_of h r → WrittenIs h r w
+  pub promises : (w : WrittenAnswer) → w ≡ written_of h r → WrittenIs h r w
   unfolding written_of
   promises w e =
       let n = number (writer_asked h r) in
-      let used : w.bits_used ≡ length (where_zero n bits) = ap (λ (v : WrittenSideInfo). v.bits_used) e in
+      let used : w.bits_used ≡ length (where_zero n bits) = ap (λ (v : WrittenAnswer). v.bits_used) e in
       record {
         whole = e;
-        counted = λ z. used ∙ ap (λ (m : ℕ). length (where_zero m bits)) (sym (ap (λ (v : WrittenSideInfo). v.number) e) ∙ z) ∙ counted (header_layout h) r;
+        counted = λ z. used ∙ ap (λ (m : ℕ). length (where_zero m bits)) (sym (ap (λ (v : WrittenAnswer). v.number) e) ∙ z) ∙ counted (header_layout h) r;
         most = rw used (few n);
-        behind = ap₂ (λ (k : ℕ) (bytes : List ℕ). drop k (unpacked bytes)) used (ap (λ (v : WrittenSideInfo). v.bytes) e)
+        behind = ap₂ (λ (k : ℕ) (bytes : List ℕ). drop k (unpacked bytes)) used (ap (λ (v : WrittenAnswer). v.bytes) e)
             ∙ zeros_behind (where_zero n bits) (few n) ∙ ap (λ (k : ℕ). replicate (8 * 174 - k) false) (sym used);
       }

@@ -9,17 +9,11 @@ use Rattle.layout.specs.declared.Layout.{Layout}
 use Rattle.layout.specs.declared.AllocationField.{AllocationField}
 use Rattle.audio_data.specs.Scfsi.{Three, three}
 use Rattle.bit_string.specs.Bits.{bits_of, packed}
-use Rattle.side_info.specs.SideInfo.{SideInfo, side_info, scalefactor_asked, record_asked, side_info_bits}
+use Rattle.side_info.specs.declared.SideInfo.{SideInfo}
+use Rattle.side_info.specs.SideInfo.{side_info, scalefactor_asked, record_asked, side_info_bits}
 use Rattle.side_info_writer.specs.declared.WriteError.{WriteError}
-use Rattle.side_info_writer.specs.declared.WriteError.TheVariants.{StepsDiffer, StepsNotInRow, IndexNotInTable}
-use Rattle.side_info_writer.specs.declared.WrittenSideInfo.{WrittenSideInfo}
-use Rattle.side_info_writer.specs.Written.{written, where_zero}
-
--- the number of the question that an error says no to
-abbrev pub question_number : WriteError → ℕ
-question_number StepsDiffer = 6
-question_number StepsNotInRow = 7
-question_number IndexNotInTable = 8
+use Rattle.side_info_writer.specs.declared.WriteError.TheVariants.{StepsDiffer, StepsNotInRow}
+use Rattle.side_info_writer.specs.Written.{WrittenAnswer, written, where_zero}
 
 -- ---- a field, from the steps of its subband in either channel
 
@@ -75,6 +69,6 @@ where_sent b i = cond b (bits_of 6 i) []
 -- ---- the answer
 
 -- the answer in the layout of an accepted header
-unfoldable pub written_under : Layout → SideInfo → WrittenSideInfo
+unfoldable pub written_under : Layout → SideInfo → WrittenAnswer
 unfolding packed side_info_bits
 written_under l r = let n = number (record_asked l r) in written n (where_zero n (side_info_bits l r))

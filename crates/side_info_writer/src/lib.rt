@@ -3,20 +3,23 @@
 
 ghost use Rattle.std.specs.Prelude.{◌≡◌, true, ◌+◌, ◌≤◌, ◌<◌, ◌++◌, length, MatchResult, OnOk};
 ghost use mathlib.Core.List.{[], flat_map};
-ghost use Rattle.active_slots.specs.Active.{SlotsIn, listed};
+ghost use Rattle.active_slots.specs.Active.{listed};
 ghost use Rattle.audio_data.specs.Scfsi.{sent};
 ghost use Rattle.bit_string.specs.Bits.{bits_of};
 ghost use Rattle.layout.specs.Layout.{fields_of};
-ghost use Rattle.side_info.specs.SideInfo.{side_info, tabled, allocation_field_bits, scfsi_bits, scalefactor_bits, side_info_bits, field_asked, record_asked};
+ghost use Rattle.side_info.specs.SideInfo.{tabled, allocation_field_bits, scfsi_bits, scalefactor_bits, side_info_bits, field_asked, record_asked};
 ghost use Rattle.header.specs.Questions.{number};
-ghost use Rattle.side_info_writer.specs.Written.{written, WrittenIs};
-ghost use Rattle.side_info_writer.specs.OnTheWay.{question_number, agree, held, found, Passed, Stopped, steps_alone, granules, three_in, TabledAre, EachTabled, where_sent, written_under};
+ghost use Rattle.side_info_writer.specs.declared.WriteError.TheVariants.{Header};
+ghost use Rattle.side_info_writer.specs.Written.{error_number, written_in, WrittenIs};
+ghost use Rattle.side_info_writer.specs.OnTheWay.{agree, held, found, Passed, Stopped, granules, three_in, TabledAre, EachTabled, where_sent, written_under};
 
 use active_slots::ActiveSlots;
-use audio_data::{Scfsi, ScfsiSlot};
+use audio_data::Scfsi;
 use bitalloc::BitAllocTable;
+use encoder_bit_budget::BitAllocError;
 use header::FrameHeader;
 use layout::{AllocationField, Layout};
+use side_info::SideInfo;
 
 mod bit_writer;
 
@@ -25,18 +28,18 @@ use bit_writer::BitWriter;
 // The bytes that hold the longest side information, 1388 bits.
 pub const SIDE_INFO_BYTES: usize = 174;
 
-// What a writer of side information answers: the answer's number; the bytes, most significant bit first, with zeros behind the last bit that is used; and
-// how many bits are used. Beside a refusal every byte is 0, and no bit is used.
+// The side information of a frame as bytes, most significant bit first, with zeros behind the last bit that is used; and how many bits are used.
 #[derive(Clone, Copy)]
 pub struct WrittenSideInfo {
-    pub number: u32,
     pub bytes: [u8; SIDE_INFO_BYTES],
     pub bits_used: u32,
 }
 
 // Why a record is not written.
-#[derive(Clone, Copy, PartialEq, Eq)]
-enum WriteError {
+#[derive(Clone, Copy, Debug, PartialEq, Eq)]
+pub enum WriteError {
+    // The header has no budget.
+    Header(BitAllocError),
     // The channels that a field serves have different steps.
     StepsDiffer,
     // The row of a field's subband does not have its steps.
@@ -46,11 +49,12 @@ enum WriteError {
 }
 
 impl WriteError {
-    // The number of the question that says no.
-    fn number(self) -> u32
-        ensures { result ≡ question_number self }
+    // The answer's number.
+    pub fn number(self) -> u32
+        ensures { result ≡ error_number self }
     {
         match self {
+            WriteError::Header(error) => error.number(),
             WriteError::StepsDiffer => 6,
             WriteError::StepsNotInRow => 7,
             WriteError::IndexNotInTable => 8,
@@ -58,73 +62,51 @@ impl WriteError {
     }
 }
 
-// The steps and scfsi by slot and the scalefactor indices, at 3 * slot + granule, as the bits of a header's frame. Slots that the header's layout does
-// not carry are not read.
-pub fn write_side_info(
-    header: FrameHeader,
-    nb_steps: [u32; 64],
-    scfsi: [ScfsiSlot; 64],
-    scalefactor: [u8; 192],
-) -> WrittenSideInfo
-    ensures { WrittenIs header (side_info nb_steps scfsi scalefactor) result }
-{
-    let budget = encoder_bit_budget::fixed_bit_budget(header);
-    match budget {
-        Ok(b) => write_under(b.layout(), nb_steps, scfsi, scalefactor),
-        Err(error) => refused(error.number()),
+impl From<BitAllocError> for WriteError {
+    ghost from_gives = { λ error refusal. refusal ≡ Header error };
+
+    fn from(error: BitAllocError) -> WriteError {
+        WriteError::Header(error)
     }
 }
 
-// The answer of a refusal: its number, 174 zeros, no bits.
-pub fn refused(number: u32) -> WrittenSideInfo
-    ensures { result ≡ written number [] }
+// A record as the bits of a header's frame. Slots that the header's layout does not carry are not read.
+pub fn write_side_info(header: FrameHeader, info: &SideInfo) -> Result<WrittenSideInfo, WriteError>
+    ensures { WrittenIs header info.now (written_in result) }
 {
-    WrittenSideInfo {
-        number,
-        bytes: [0; SIDE_INFO_BYTES],
-        bits_used: 0,
-    }
+    let budget = encoder_bit_budget::fixed_bit_budget(header)?;
+    write_under(budget.layout(), info)
 }
 
-// The answer in the layout of an accepted header.
-fn write_under(
-    layout: Layout,
-    nb_steps: [u32; 64],
-    scfsi: [ScfsiSlot; 64],
-    scalefactor: [u8; 192],
-) -> WrittenSideInfo
-    ensures { result ≡ written_under layout (side_info nb_steps scfsi scalefactor) }
+// The same in the layout of an accepted header.
+fn write_under(layout: Layout, info: &SideInfo) -> Result<WrittenSideInfo, WriteError>
+    ensures { written_in result ≡ written_under layout info.now }
 {
     let mut writer = BitWriter::new();
-    match write_sections(layout, nb_steps, scfsi, scalefactor, &mut writer) {
-        Ok(()) => WrittenSideInfo {
-            number: 0,
-            bytes: writer.bytes(),
-            bits_used: writer.bits_used(),
-        },
-        Err(error) => refused(error.number()),
-    }
+    write_sections(layout, info, &mut writer)?;
+    Ok(WrittenSideInfo {
+        bytes: writer.bytes(),
+        bits_used: writer.bits_used(),
+    })
 }
 
 // The allocation fields, scfsi and scalefactors: the fields are asked as they are written, then the indices.
 fn write_sections(
     layout: Layout,
-    nb_steps: [u32; 64],
-    scfsi: [ScfsiSlot; 64],
-    scalefactor: [u8; 192],
+    info: &SideInfo,
     writer: &mut BitWriter,
 ) -> Result<(), WriteError>
     requires { writer.old ≡ [] }
-    ensures asked { MatchResult result (λ _. number (record_asked layout (side_info nb_steps scfsi scalefactor)) ≡ 0) (λ e. number (record_asked layout (side_info nb_steps scfsi scalefactor)) ≡ question_number e) }
-    ensures written { OnOk result (writer.new ≡ side_info_bits layout (side_info nb_steps scfsi scalefactor)) }
+    ensures asked { MatchResult result (λ _. number (record_asked layout info.now) ≡ 0) (λ e. number (record_asked layout info.now) ≡ error_number e) }
+    ensures written { OnOk result (writer.new ≡ side_info_bits layout info.now) }
 {
-    write_allocation(layout, nb_steps, writer)?;
-    let active = active_slots::active_slots(layout, nb_steps);
-    if !indices_tabled(active, scalefactor) {
+    write_allocation(layout, info, writer)?;
+    let active = active_slots::active_slots(layout, info.steps);
+    if !indices_tabled(active, info) {
         return Err(WriteError::IndexNotInTable);
     }
-    write_scfsi(active, scfsi, writer);
-    write_scalefactors(active, scfsi, scalefactor, writer);
+    write_scfsi(active, info, writer);
+    write_scalefactors(active, info, writer);
     Ok(())
 }
 
@@ -166,30 +148,31 @@ fn field_place(
 // The allocation fields, field by field.
 fn write_allocation(
     layout: Layout,
-    nb_steps: [u32; 64],
+    info: &SideInfo,
     writer: &mut BitWriter,
 ) -> Result<(), WriteError>
     requires { writer.old ≡ [] }
-    ensures asked { MatchResult result (λ _. Passed (flat_map (field_asked layout (steps_alone nb_steps)) (fields_of layout))) (λ e. Stopped (flat_map (field_asked layout (steps_alone nb_steps)) (fields_of layout)) (question_number e)) }
-    ensures written { OnOk result (writer.new ≡ flat_map (allocation_field_bits layout (steps_alone nb_steps)) (fields_of layout)) }
+    ensures asked { MatchResult result (λ _. Passed (flat_map (field_asked layout info.now) (fields_of layout))) (λ e. Stopped (flat_map (field_asked layout info.now) (fields_of layout)) (error_number e)) }
+    ensures written { OnOk result (writer.new ≡ flat_map (allocation_field_bits layout info.now) (fields_of layout)) }
 {
     let table = layout.table;
     for f in 0..layout.fields() {
         let field = layout.field(f);
         let sb = field.subband;
-        let place = field_place(table, field, nb_steps[sb], nb_steps[32 + sb])?;
+        let place = field_place(table, field, info.steps[sb], info.steps[32 + sb])?;
         writer.put(place, table.nbal(sb));
     }
     Ok(())
 }
 
 // The scalefactor indices of a slot, one for each granule.
-fn granules(scalefactor: &[u8], slot: usize) -> [u8; 3]
-    requires { (slot < 64) × (length scalefactor.now ≡ 192) }
-    ensures { result ≡ granules scalefactor.now slot }
+fn granules(info: &SideInfo, slot: usize) -> [u8; 3]
+    requires { slot < 64 }
+    ensures { result ≡ granules info.now.scalefactors slot }
 {
     let at = 3 * slot;
-    [scalefactor[at], scalefactor[at + 1], scalefactor[at + 2]]
+    let indices = &info.scalefactors;
+    [indices[at], indices[at + 1], indices[at + 2]]
 }
 
 // Whether Table 3-B.1 has the three indices of a slot.
@@ -200,12 +183,11 @@ fn slot_tabled(indices: [u8; 3]) -> bool
 }
 
 // Whether it has those of every active slot.
-fn indices_tabled(active: ActiveSlots, scalefactor: [u8; 192]) -> bool
-    requires { SlotsIn active }
-    ensures { TabledAre (listed active) scalefactor result }
+fn indices_tabled(active: ActiveSlots, info: &SideInfo) -> bool
+    ensures { TabledAre (listed active) info.now result }
 {
-    for slot in &active.slots[..active.count] {
-        if !slot_tabled(granules(&scalefactor, usize::from(*slot))) {
+    for slot in active.as_slice() {
+        if !slot_tabled(granules(info, usize::from(*slot))) {
             return false;
         }
     }
@@ -213,14 +195,13 @@ fn indices_tabled(active: ActiveSlots, scalefactor: [u8; 192]) -> bool
 }
 
 // The scfsi of the active slots, two bits each.
-fn write_scfsi(active: ActiveSlots, scfsi: [ScfsiSlot; 64], writer: &mut BitWriter)
-    requires { SlotsIn active × (length writer.old + length (flat_map (scfsi_bits (side_info [] scfsi [])) (listed active)) ≤ 1392) }
-    ensures { writer.new ≡ writer.old ++ flat_map (scfsi_bits (side_info [] scfsi [])) (listed active) }
+fn write_scfsi(active: ActiveSlots, info: &SideInfo, writer: &mut BitWriter)
+    requires { length writer.old + length (flat_map (scfsi_bits info.now) (listed active)) ≤ 1392 }
+    ensures { writer.new ≡ writer.old ++ flat_map (scfsi_bits info.now) (listed active) }
 {
-    for slot in &active.slots[..active.count] {
-        let at_slot = scfsi[usize::from(*slot)];
-        let chosen = at_slot.scfsi;
-        writer.put(u32::from(chosen.code()), 2);
+    for slot in active.as_slice() {
+        let scfsi = info.scfsi[usize::from(*slot)];
+        writer.put(u32::from(scfsi.code()), 2);
     }
 }
 
@@ -246,18 +227,12 @@ fn put_sent(writer: &mut BitWriter, scfsi: Scfsi, indices: [u8; 3])
 }
 
 // The scalefactors of the active slots.
-fn write_scalefactors(
-    active: ActiveSlots,
-    scfsi: [ScfsiSlot; 64],
-    scalefactor: [u8; 192],
-    writer: &mut BitWriter,
-)
-    requires { SlotsIn active × EachTabled (listed active) scalefactor × (length writer.old + length (flat_map (scalefactor_bits (side_info [] scfsi scalefactor)) (listed active)) ≤ 1392) }
-    ensures { writer.new ≡ writer.old ++ flat_map (scalefactor_bits (side_info [] scfsi scalefactor)) (listed active) }
+fn write_scalefactors(active: ActiveSlots, info: &SideInfo, writer: &mut BitWriter)
+    requires { EachTabled (listed active) info.now × (length writer.old + length (flat_map (scalefactor_bits info.now) (listed active)) ≤ 1392) }
+    ensures { writer.new ≡ writer.old ++ flat_map (scalefactor_bits info.now) (listed active) }
 {
-    for slot in &active.slots[..active.count] {
+    for slot in active.as_slice() {
         let slot = usize::from(*slot);
-        let at_slot = scfsi[slot];
-        put_sent(writer, at_slot.scfsi, granules(&scalefactor, slot));
+        put_sent(writer, info.scfsi[slot], granules(info, slot));
     }
 }

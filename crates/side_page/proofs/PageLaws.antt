@@ -13,12 +13,12 @@ use Rattle.header.specs.Header.{free_format}
 use Rattle.layout.specs.declared.Layout.{Layout}
 use Rattle.encoder_bit_budget.specs.declared.FixedBitBudget.{FixedBitBudget}
 use Rattle.encoder_bit_budget.specs.Budget.{plain, budget_of, layout_in}
-use Rattle.side_info.specs.SideInfo.{SideInfo, active_slots}
-use Rattle.active_slots.specs.declared.ActiveSlots.{ActiveSlots}
+use Rattle.side_info.specs.declared.SideInfo.{SideInfo}
+use Rattle.side_info.specs.SideInfo.{active_slots}
+use Rattle.active_slots.specs.declared.slots.ActiveSlots.{ActiveSlots}
 use Rattle.active_slots.specs.Active.{listed, SlotsIn, ActiveAre}
 use Rattle.active_slots.proofs.ActiveLaws.{listed_long, listed_at, listed_here, listed_over}
-use Rattle.side_info_reading.specs.declared.ReadSideInfo.{ReadSideInfo}
-use Rattle.side_info_reading.specs.Read.{record_in}
+use Rattle.side_info_reading.specs.Read.{ReadAnswer}
 use Rattle.text_line.specs.declared.line.Text.{Text}
 use Rattle.text_line.specs.Line.{text_of}
 use Rattle.text_line.specs.Page.{LineIs}
@@ -89,27 +89,27 @@ module _ (free : Bool) (b : FixedBitBudget) (a : ActiveSlots) (in-slots : SlotsI
 
 -- ---- which page it is
 
-module _ (h : FrameHeader) (given : ℕ) (r : ReadSideInfo) where
+module _ (h : FrameHeader) (given : ℕ) (r : ReadAnswer) where
   pub line_accepted : (b : FixedBitBudget) → b ≡ (budget_of (plain h 0)).budget → r.number ≡ 0 → (free : Bool) → free ≡ free_format h
       → (l : Layout) → l ≡ layout_in b → (a : ActiveSlots) → ActiveAre l r.nb_steps a → (n : ℕ) (line : Text 256)
-      → text_of line ≡ get_or (accepted_page free b (listed a) (record_in r) r.bits_used) n []
+      → text_of line ≡ get_or (accepted_page free b (listed a) r.info r.bits_used) n []
       → LineIs (side_page h given r) n (record { there = ltb n (a.count + 5); line = line })
   unfolding side_page page_by
   line_accepted b e z free f l g a are n line t =
       let slots = active_slots (layout_in b) r.nb_steps in
       let all : listed a ≡ slots = are.whole ∙ ap (λ (l : Layout). active_slots l r.nb_steps) g in
-      let page = accepted_page free b (listed a) (record_in r) r.bits_used in
+      let page = accepted_page free b (listed a) r.info r.bits_used in
       let same : page ≡ side_page h given r =
-      ap (λ (x : Bool). accepted_page x b (listed a) (record_in r) r.bits_used) f
-      ∙ ap (λ (xs : List ℕ). accepted_page (free_format h) b xs (record_in r) r.bits_used) all
+      ap (λ (x : Bool). accepted_page x b (listed a) r.info r.bits_used) f
+      ∙ ap (λ (xs : List ℕ). accepted_page (free_format h) b xs r.info r.bits_used) all
       ∙ opened b z
       ∙ ap (λ (b : FixedBitBudget). page_by h b given r) e in
-      let long : length page ≡ a.count + 5 = accepted_length free b (listed a) (record_in r) r.bits_used ∙ ap (λ (k : ℕ). k + 5) (listed_long a are.slots) in
+      let long : length page ≡ a.count + 5 = accepted_length free b (listed a) r.info r.bits_used ∙ ap (λ (k : ℕ). k + 5) (listed_long a are.slots) in
       subst (λ (p : List (List ℕ)). LineIs p n (record { there = ltb n (a.count + 5); line = line })) same
       (record { there = ap (ltb n) (sym long); line = t })
     where
       opened : (b : FixedBitBudget) → r.number ≡ 0
-          → accepted_page (free_format h) b (active_slots (layout_in b) r.nb_steps) (record_in r) r.bits_used ≡ page_by h b given r
+          → accepted_page (free_format h) b (active_slots (layout_in b) r.nb_steps) r.info r.bits_used ≡ page_by h b given r
       opened b z = rw (eq-eqb r.number 0 z)
 
   pub page_refused : (t : List ℕ) → (r.number ≡ 0 → ⊥) → t ≡ refused_line h r.number given → t ∷ [] ≡ side_page h given r

@@ -5,9 +5,9 @@ use Rattle.header.specs.Header.{free_format}
 use Rattle.encoder_bit_budget.specs.declared.FixedBitBudget.{FixedBitBudget}
 use Rattle.encoder_bit_budget.specs.Budget.{plain, budget_of, layout_in}
 use Rattle.audio_data.specs.Scfsi.{code_of}
-use Rattle.side_info.specs.SideInfo.{SideInfo, scfsi_in, scalefactors_in, active_slots}
-use Rattle.side_info_reading.specs.declared.ReadSideInfo.{ReadSideInfo}
-use Rattle.side_info_reading.specs.Read.{record_in}
+use Rattle.side_info.specs.declared.SideInfo.{SideInfo}
+use Rattle.side_info.specs.SideInfo.{scfsi_in, scalefactors_in, active_slots}
+use Rattle.side_info_reading.specs.Read.{ReadAnswer}
 use Rattle.plan_text.specs.Quoted.{text}
 use Rattle.text_line.specs.Number.{number_text}
 use Rattle.plan_lines.specs.Lines.{frame_line, free_line, bits_line}
@@ -57,12 +57,12 @@ unfoldable pub accepted_page : Bool → FixedBitBudget → List ℕ → SideInfo
 accepted_page free b slots s bits = head_of free b ++ map (row_of s) slots ++ foot_of bits
 
 -- the page from a header's budget: its layout's active slots, in the order in which they travel
-unfoldable pub page_by : FrameHeader → FixedBitBudget → ℕ → ReadSideInfo → List (List ℕ)
+unfoldable pub page_by : FrameHeader → FixedBitBudget → ℕ → ReadAnswer → List (List ℕ)
 page_by h b given r =
     cond (eqb r.number 0)
-    (accepted_page (free_format h) b (active_slots (layout_in b) r.nb_steps) (record_in r) r.bits_used)
+    (accepted_page (free_format h) b (active_slots (layout_in b) r.nb_steps) r.info r.bits_used)
     (refused_line h r.number given ∷ [])
 
 -- the whole page, from the header, how many bytes were given, and what was read from them
-unfoldable pub side_page : FrameHeader → ℕ → ReadSideInfo → List (List ℕ)
+unfoldable pub side_page : FrameHeader → ℕ → ReadAnswer → List (List ℕ)
 side_page h given r = page_by h (budget_of (plain h 0)).budget given r

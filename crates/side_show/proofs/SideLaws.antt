@@ -16,15 +16,14 @@ use Rattle.std.proofs.lemmas.Result.{IfOk-at_ok}
 use Rattle.hex_text.specs.declared.HexError.{HexError}
 use Rattle.hex_text.specs.declared.HexError.TheVariants.{WrongCharacter, OddDigits}
 use Rattle.hex_text.specs.Hex.{hex_of, counted, HexIs}
-use Rattle.side_info_reading.specs.declared.ReadSideInfo.{ReadSideInfo}
-use Rattle.side_info_reading.specs.Read.{read_of}
+use Rattle.side_info_reading.specs.Read.{ReadAnswer, read_of}
 use Rattle.side_page.specs.Page.{side_page}
 use Rattle.side_show.specs.Notes.{wrong_character_text, odd_digits_text}
 use Rattle.side_show.specs.Side.{with_bytes, by_answer, with_input, with_words, side_of}
 
 -- ---- with bytes
 
-pub shown : (h : FrameHeader) (bytes : List ℕ) (r : ReadSideInfo) → r ≡ read_of h bytes → side_page h (length bytes) r ≡ with_bytes h bytes
+pub shown : (h : FrameHeader) (bytes : List ℕ) (r : ReadAnswer) → r ≡ read_of h bytes → side_page h (length bytes) r ≡ with_bytes h bytes
 unfolding with_bytes
 shown h bytes r e = ap (side_page h (length bytes)) e
 

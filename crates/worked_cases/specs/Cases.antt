@@ -11,19 +11,15 @@ use Rattle.bitalloc.specs.declared.BitAllocTable.TheVariants.{B2a, B2b, B2c, B1L
 use Rattle.table_selection.specs.Select.{table_of}
 use Rattle.audio_data.specs.declared.Scfsi.{Scfsi}
 use Rattle.audio_data.specs.declared.Scfsi.TheVariants.{ThreePerGranule, ShareAll}
-use Rattle.audio_data.specs.declared.ScfsiSlot.{ScfsiSlot}
 use Rattle.audio_data.specs.Scfsi.{code_of}
 use Rattle.encoder_scalefactors.specs.Indices.{pick_of}
 use Rattle.encoder_scfsi.specs.Select.{selection}
 use Rattle.encoder_bit_budget.specs.Budget.{plain, BudgetAnswer, budget_of, fixed_in}
 use Rattle.encoder_bit_allocator.specs.Allocation.{AllocationAnswer, allocation_of}
 use Rattle.side_info.specs.SideInfo.{side_info}
-use Rattle.side_info_writer.specs.declared.WrittenSideInfo.{WrittenSideInfo}
-use Rattle.side_info_writer.specs.Written.{written_of}
-use Rattle.side_info_reading.specs.declared.ReadSideInfo.{ReadSideInfo}
-use Rattle.side_info_reading.specs.Read.{read_of}
-use Rattle.record_check.specs.declared.RecordCheck.{RecordCheck}
-use Rattle.record_check.specs.Check.{check_of}
+use Rattle.side_info_writer.specs.Written.{WrittenAnswer, written_of}
+use Rattle.side_info_reading.specs.Read.{ReadAnswer, read_of}
+use Rattle.record_check.specs.Check.{CheckAnswer, check_of}
 use Rattle.canonical_form.specs.Canonical.{canonical_of}
 
 -- ---- what is asked, and what is answered
@@ -43,11 +39,11 @@ pub data Question : Type 0 where
   -- its allocation, with these ratios and so many ancillary bits
   allocation : FrameHeader → Ratios → ℕ → Question
   -- its side information, written from steps, scfsi and scalefactor indices
-  side_information : FrameHeader → List ℕ → List ScfsiSlot → List ℕ → Question
+  side_information : FrameHeader → List ℕ → List Scfsi → List ℕ → Question
   -- the same in its one form
-  canonical_information : FrameHeader → List ℕ → List ScfsiSlot → List ℕ → Question
+  canonical_information : FrameHeader → List ℕ → List Scfsi → List ℕ → Question
   -- whether such a record hangs together
-  record_check : FrameHeader → List ℕ → List ScfsiSlot → List ℕ → Question
+  record_check : FrameHeader → List ℕ → List Scfsi → List ℕ → Question
   -- the side information at the front of bytes
   side_information_in : FrameHeader → List ℕ → Question
   -- the indices used for three scalefactor indices
@@ -79,13 +75,13 @@ of_budget a = budgeted a.answer a.budget.table a.budget.cb (fixed_in a.budget)
 abbrev of_allocation : AllocationAnswer → Answer
 of_allocation a = allocated a.number a.audio.nb_steps a.left a.cb a.fixed a.banc
 
-abbrev of_written : WrittenSideInfo → Answer
+abbrev of_written : WrittenAnswer → Answer
 of_written w = bits w.number w.bytes w.bits_used
 
-abbrev of_check : RecordCheck → Answer
+abbrev of_check : CheckAnswer → Answer
 of_check c = named c.number c.subband c.channel
 
-abbrev of_read : ReadSideInfo → Answer
+abbrev of_read : ReadAnswer → Answer
 of_read r = found r.number r.nb_steps (map (λ s. code_of s.scfsi) r.scfsi) r.scalefactor r.bits_used
 
 -- the two rows of ratios, where `any` stands for those given
@@ -154,8 +150,8 @@ abbrev nothing_found : ℕ → Answer
 nothing_found n = found n (idle 64) (idle 64) (idle 192) 0
 
 -- one scfsi for every slot, and one index for every granule of every slot
-abbrev all_with : Scfsi → List ScfsiSlot
-all_with s = replicate 64 (record { scfsi = s })
+abbrev all_with : Scfsi → List Scfsi
+all_with s = replicate 64 (s)
 
 abbrev indexed : ℕ → List ℕ
 indexed i = replicate 192 i

@@ -25,6 +25,5 @@ loop-k-preserved c =
 pub returns : goal.returns
 returns c =
     let l = c.loop-k in
-    let up : l.k ≤ length (slots_of c.args.layout) = omega (arith, c.slots-slots.ensures.whole) in
     let over : length (slots_of c.args.layout) ≤ l.k = omega (arith, c.slots-slots.ensures.whole) in
-    all_active _ _ l.k l.count l.active up over l.invariant
+    all_active _ _ l.k l.count l.active over l.invariant

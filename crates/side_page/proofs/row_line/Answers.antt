@@ -3,7 +3,7 @@ use mathlib.Core.Path.{ap, ◌∙◌}
 use Prim.Native.Nat.{ℕ}
 use lib.ListN.{get_or}
 use Rattle.side_info.specs.SideInfo.{scalefactors_in}
-use Rattle.side_info_reading.specs.Read.{record_in}
+use Rattle.side_info_reading.specs.Read.{}
 use Rattle.side_rows.specs.Rows.{row_line}
 use Rattle.side_page.proofs.row_line.Goals as goal
 
