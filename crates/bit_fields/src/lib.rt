@@ -8,19 +8,19 @@ ghost use Rattle.bit_fields.specs.Fields.{joined, upper, lower};
 pub fn beside(high: u32, low: u32, width: u32) -> u32
     ensures { result ≡ joined high low width }
 {
-    (high << (width % 32)) | low
+    high.wrapping_shl(width) | low
 }
 
 // What stands above the last `width` bits.
 pub fn above(n: u32, width: u32) -> u32
     ensures { result ≡ upper n width }
 {
-    n >> (width % 32)
+    n.wrapping_shr(width)
 }
 
 // What stands in them.
 pub fn below(n: u32, width: u32) -> u32
     ensures { result ≡ lower n width }
 {
-    n & ((1 << (width % 32)) - 1)
+    n & (1u32.wrapping_shl(width) - 1)
 }

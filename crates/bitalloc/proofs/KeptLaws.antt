@@ -3,7 +3,7 @@ use Rattle.std.specs.Prelude.{Some, slice_get}
 use mathlib.Core.Path.{◌≡◌, refl, sym, ap, ap₂, ◌∙◌, subst}
 use mathlib.Core.Bool.{Bool, true, false, not, cond, ◌&&◌}
 use mathlib.Core.List.{List, [], ◌∷◌, map}
-use Prim.Native.Nat.{ℕ, suc, ◌+◌, ◌-◌, ◌*◌, ◌/◌, ◌^◌, ◌≤◌, ◌<◌, min, suc-le-suc}
+use Prim.Native.Nat.{ℕ, zero, suc, ◌+◌, ◌-◌, ◌*◌, ◌/◌, ◌%◌, ◌^◌, ◌≤◌, ◌<◌, min, suc-le-suc}
 use native.Mathlib.Nat.{le_trans, le-suc}
 use native.Mathlib.Decide.{dec_lt}
 use native.Mathlib.Omega.{arith}
@@ -250,3 +250,22 @@ places_are t sb range r e p = record { whole = p.whole ∙ rw e (told t sb).coun
 pub row_is : (t : BitAllocTable) (sb range : ℕ) (r : List ℕ) → range ≡ range_number t sb → r ≡ sixteen (kept_row (2 * range + column_of t)) → r ≡ row_of16 t sb
 unfolding row_of16 row_number
 row_is t sb range r e q = q ∙ ap (λ (n : ℕ). sixteen (kept_row (2 * n + column_of t))) e ∙ ap sixteen (told t sb).row
+
+-- ---- the places of a range's rows: one for each code of its fields, and none where it has no field
+
+pub no_places : (range n : ℕ) → n ≡ get_or nbals range 0 → n ≡ 0 → PlacesInRange range 0
+unfolding kept kept_row
+no_places zero n e z = absurd (let f = e in omega arith)
+no_places (suc zero) n e z = absurd (let f = e in omega arith)
+no_places (suc (suc zero)) n e z = absurd (let f = e in omega arith)
+no_places (suc (suc (suc zero))) n e z = absurd (let f = e in omega arith)
+no_places (suc (suc (suc (suc k)))) n e z =
+    record { whole = ap length (sym (none_kept (2 * suc (suc (suc (suc k)))) (omega arith))); most = lit≤ tt }
+
+pub places_counted : (range n : ℕ) → n ≡ get_or nbals range 0 → (n ≡ 0 → ⊥) → PlacesInRange range (1 * 2 ^ n % 2 ^ 64)
+unfolding kept kept_row
+places_counted zero n e d = rw e (record { whole = refl; most = lit≤ tt })
+places_counted (suc zero) n e d = rw e (record { whole = refl; most = lit≤ tt })
+places_counted (suc (suc zero)) n e d = rw e (record { whole = refl; most = lit≤ tt })
+places_counted (suc (suc (suc zero))) n e d = rw e (record { whole = refl; most = lit≤ tt })
+places_counted (suc (suc (suc (suc k)))) n e d = absurd (d e)

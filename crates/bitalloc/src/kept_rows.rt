@@ -56,15 +56,10 @@ pub fn nbal(range: usize) -> u32
     }
 }
 
-// How many places the rows of a range have; none past the last.
+// How many places the rows of a range have: one for each code of its allocation fields; none past the last.
 pub fn places(range: usize) -> usize
     ensures { PlacesInRange range result }
 {
-    match range {
-        0 => 16,
-        1 => 16,
-        2 => 8,
-        3 => 4,
-        _ => 0,
-    }
+    let bits = nbal(range);
+    if bits == 0 { 0 } else { 1 << bits }
 }

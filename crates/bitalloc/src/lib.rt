@@ -11,14 +11,14 @@ mod kept_rows;
 // A subband's index is below this.
 pub const NUM_SUBBANDS: usize = 32;
 
-// The five tables of possible quantizations per subband.
+// The five tables of possible quantizations per subband, and the number of each.
 #[derive(Clone, Copy, Debug, PartialEq, Eq)]
 pub enum BitAllocTable {
-    B2a,
-    B2b,
-    B2c,
-    B2d,
-    B1Lsf,
+    B2a = 0,
+    B2b = 1,
+    B2c = 2,
+    B2d = 3,
+    B1Lsf = 4,
 }
 
 // A number that no table has.
@@ -48,13 +48,7 @@ impl BitAllocTable {
     pub fn number(self) -> u32
         ensures { result ≡ table_number self }
     {
-        match self {
-            BitAllocTable::B2a => 0,
-            BitAllocTable::B2b => 1,
-            BitAllocTable::B2c => 2,
-            BitAllocTable::B2d => 3,
-            BitAllocTable::B1Lsf => 4,
-        }
+        self as u32
     }
 
     // How many subbands the table carries.

@@ -2,18 +2,19 @@
 // under the same contract; here the slices' lengths are asked about first (98), then what the numbers mean (14), then what the function itself asks.
 #![tactic(auto)]
 
-ghost use Rattle.std.specs.Prelude.{◌≡◌, ◌||◌, ltb, length};
-ghost use Rattle.encoder_bit_budget.specs.Budget.{budget_in};
+ghost use Rattle.std.specs.Prelude.{◌≡◌, ◌||◌, ltb, length, Err};
+ghost use Rattle.encoder_bit_budget.specs.Budget.{Bounded};
+ghost use Rattle.encoder_bit_allocator.specs.Allocation.{answer_in};
 ghost use Rattle.c_answers.specs.Answers.{asked, answered, Answers};
 ghost use Rattle.c_answers.specs.Arguments.{header_numbered};
 ghost use Rattle.c_answers.specs.Refusals.{number_in};
 ghost use Rattle.c_answers.specs.Replies.{table_selected, frame_sized, budget_values};
-ghost use Rattle.c_answers.specs.Replies.{budget_fixed, bits_available, bits_demanded, steps_allocated, bits_allocated};
-ghost use Rattle.c_frame.specs.Bounds.{BoundedIn};
+ghost use Rattle.c_answers.specs.Replies.{budget_fixed, bits_available, bits_demanded, steps_allocated, bits_allocated, allocation_values};
 
 use c_answers::arguments::HeaderNumbers;
+use c_answers::parts::Told;
 use c_answers::refusal::Refusal;
-use c_answers::{parts, writing};
+use c_answers::writing;
 use encoder_bit_budget::{BitAllocError, FixedBitBudget};
 use layout::slots;
 
@@ -24,9 +25,12 @@ pub fn select_table(given: HeaderNumbers, out: &mut [u32]) -> Result<u32, Refusa
         out.old (number_in result) out.new }
 {
     let header = given.header(out.len() < 1)?;
-    let selected = table_selection::select_table(header);
-    out[0] = parts::selected_table(selected);
-    Ok(parts::selected_number(selected))
+    let (number, table) = match table_selection::select_table(header) {
+        Some(selected) => (0, selected.number()),
+        None => (1, 0),
+    };
+    out[0] = table;
+    Ok(number)
 }
 
 // The length of the frame in bytes.
@@ -36,9 +40,9 @@ pub fn frame_size_bytes(given: HeaderNumbers, out: &mut [u64]) -> Result<u32, Re
         out.old (number_in result) out.new }
 {
     let header = given.header(out.len() < 1)?;
-    let size = header.frame_size_bytes();
-    out[0] = parts::size_bytes(size);
-    Ok(parts::size_number(size))
+    let size = Told::of_option(header.frame_size_bytes(), 2, 0);
+    out[0] = size.value;
+    Ok(size.number)
 }
 
 // The bits that are fixed for the frame.
@@ -48,31 +52,30 @@ pub fn fixed_bit_budget(given: HeaderNumbers, out: &mut [u32]) -> Result<u32, Re
         out.old (number_in result) out.new }
 {
     let header = given.header(out.len() < 8)?;
-    let budget = encoder_bit_budget::fixed_bit_budget(header);
-    writing::put(&budget_values(budget), out);
-    Ok(parts::budget_number(budget))
+    let (budget_number, values) = match encoder_bit_budget::fixed_bit_budget(header) {
+        Ok(budget) => (0, budget_values(budget)),
+        Err(error) => (error.number(), [0; 8]),
+    };
+    writing::put(&values, out);
+    Ok(budget_number)
 }
 
-fn budget_values(budget: Result<FixedBitBudget, BitAllocError>) -> [u32; 8]
-    requires { BoundedIn budget }
-    ensures { result ≡ budget_values (budget_in budget).budget }
+// A budget as C has it.
+fn budget_values(budget: FixedBitBudget) -> [u32; 8]
+    requires { Bounded budget }
+    ensures { result ≡ budget_values budget }
 {
-    match budget {
-        Ok(b) => {
-            let table = b.table;
-            [
-                b.cb,
-                b.bhdr,
-                b.bcrc,
-                b.bbal,
-                b.sblimit as u32,
-                b.bound as u32,
-                b.channels as u32,
-                table.number(),
-            ]
-        }
-        Err(_) => [0; 8],
-    }
+    let table = budget.table;
+    [
+        budget.cb,
+        budget.bhdr,
+        budget.bcrc,
+        budget.bbal,
+        budget.sblimit as u32,
+        budget.bound as u32,
+        budget.channels as u32,
+        table.number(),
+    ]
 }
 
 // The bits that the frame offers beside `banc` ancillary bits.
@@ -82,9 +85,9 @@ pub fn available_data_bits(given: HeaderNumbers, banc: u32, out: &mut [i64]) -> 
         out.old (number_in result) out.new }
 {
     let header = given.header(out.len() < 1)?;
-    let available = encoder_bit_budget::available_data_bits(header, banc);
-    out[0] = parts::offered_bits(available);
-    Ok(parts::offer_number(available))
+    let offer = Told::of_result(encoder_bit_budget::available_data_bits(header, banc), 0);
+    out[0] = offer.value;
+    Ok(offer.number)
 }
 
 // The bits that the signal-to-mask ratios demand.
@@ -96,12 +99,14 @@ pub fn demand_bits(given: HeaderNumbers, smr_db: &[f64], out: &mut [u64]) -> Res
         out.old (number_in result) out.new }
 {
     let header = given.header((smr_db.len() < 64) | (out.len() < 1))?;
-    let demand = encoder_bit_demand::demand_bits(header, slots::rows(smr_db));
-    out[0] = parts::demanded_bits(demand);
-    Ok(parts::demand_number(demand))
+    let answer = encoder_bit_demand::demand_bits(header, slots::rows(smr_db));
+    let demand = Told::of_result(answer, 0);
+    out[0] = demand.value;
+    Ok(demand.number)
 }
 
 // The steps of each slot, and the bits left.
+#[tactic(auto, unfolding(audio_data::specs::Record::filler))]
 pub fn allocate_bits(
     given: HeaderNumbers,
     banc: u32,
@@ -124,7 +129,26 @@ pub fn allocate_bits(
 {
     let header = given.header((smr_db.len() < 64) | ((steps.len() < 64) | (out.len() < 4)))?;
     let allocation = encoder_bit_allocator::allocate_bits(header, slots::rows(smr_db), banc);
-    writing::put(&parts::steps_by_slot(allocation), steps);
-    writing::put(&parts::allocation_values(allocation), out);
-    Ok(parts::allocation_number(allocation))
+    let (allocation_number, held, values) = match allocation {
+        Ok(allocated) => {
+            let held = allocated.audio.nb_steps;
+            (0, held, [allocated.left, 0, 0, 0])
+        }
+        Err(error) => (error.number(), [0; 64], shortfall(error)),
+    };
+    writing::put(&held, steps);
+    writing::put(&values, out);
+    Ok(allocation_number)
+}
+
+// What a refusal has beside its number: no bits left, and cb, fixed and banc where they do not fit the frame.
+fn shortfall(error: BitAllocError) -> [u32; 4]
+    ensures { result ≡ allocation_values (answer_in (Err error)) }
+{
+    match error {
+        BitAllocError::InsufficientFrameSize { cb, fixed, banc } => [0, cb, fixed, banc],
+        BitAllocError::RateOffLadder
+        | BitAllocError::NoBitallocTable
+        | BitAllocError::ZeroSampleRate => { [0; 4] }
+    }
 }

@@ -4,6 +4,7 @@ ghost use Rattle.c_answers.specs.Answers.{asked, answered, Answers};
 ghost use Rattle.c_answers.specs.Refusals.{number_in};
 ghost use Rattle.c_answers.specs.Replies.{sample_coded, triplet_coded};
 
+use c_answers::parts::Told;
 use c_answers::refusal::Refusal;
 use c_answers::{parts, writing};
 
@@ -18,9 +19,9 @@ pub fn quantize_sample(steps: u32, sample: f64, out: &mut [u32]) -> Result<u32, 
     if out.len() < 1 {
         return Err(Refusal::Short);
     }
-    let coded = encoder_samples::quantize_sample_for(steps, sample);
-    out[0] = parts::sample_code(coded);
-    Ok(parts::code_number(coded))
+    let code = Told::of_option(encoder_samples::quantize_sample_for(steps, sample), 5, 0);
+    out[0] = code.value;
+    Ok(code.number)
 }
 
 // The codewords of three consecutive samples in the class of a number of steps.
@@ -34,7 +35,10 @@ pub fn write_triplet(steps: u32, a: f64, b: f64, c: f64, out: &mut [u32]) -> Res
     if out.len() < 5 {
         return Err(Refusal::Short);
     }
-    let answer = encoder_samples::write_triplet_for(steps, [a, b, c]);
-    writing::put(&parts::triplet_values(answer), out);
-    Ok(parts::triplet_number(answer))
+    let (number, values) = match encoder_samples::write_triplet_for(steps, [a, b, c]) {
+        Some(triplet) => (0, parts::triplet_values(triplet)),
+        None => (5, [0; 5]),
+    };
+    writing::put(&values, out);
+    Ok(number)
 }

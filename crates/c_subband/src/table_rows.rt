@@ -5,6 +5,7 @@ ghost use Rattle.c_answers.specs.Arguments.{table_meant};
 ghost use Rattle.c_answers.specs.Refusals.{number_in};
 ghost use Rattle.c_answers.specs.Replies.{limits_at, steps_found, index_found, coefficients, class_figures, snr_found};
 
+use c_answers::parts::Told;
 use c_answers::refusal::Refusal;
 use c_answers::{arguments, parts, writing};
 
@@ -58,6 +59,7 @@ fn put_found(found: Option<u32>, out: &mut [u32]) -> Result<u32, Refusal>
 }
 
 // The class of quantization of a number of steps.
+#[tactic(auto, unfolding(quantization::specs::Classes::bits_per_sample))]
 pub fn class_of_quantization(steps: u32, cd: &mut [f64], out: &mut [u32]) -> Result<u32, Refusal>
     ensures cd_written { Answers
         (answered
@@ -73,11 +75,13 @@ pub fn class_of_quantization(steps: u32, cd: &mut [f64], out: &mut [u32]) -> Res
     if (cd.len() < 2) | (out.len() < 4) {
         return Err(Refusal::Short);
     }
-    let found = quantization::class_of_quantization(steps);
-    cd[0] = parts::coefficient_c(found);
-    cd[1] = parts::coefficient_d(found);
-    writing::put(&parts::figures(found), out);
-    Ok(parts::class_number(found))
+    let (number, coefficients, figures) = match quantization::class_of_quantization(steps) {
+        Some(class) => (0, [class.c, class.d], parts::figures(class)),
+        None => (5, [0.0; 2], [0; 4]),
+    };
+    writing::put(&coefficients, cd);
+    writing::put(&figures, out);
+    Ok(number)
 }
 
 // The signal-to-noise ratio of a number of steps.
@@ -91,7 +95,7 @@ pub fn snr_db(steps: u32, out: &mut [f64]) -> Result<u32, Refusal>
     if out.len() < 1 {
         return Err(Refusal::Short);
     }
-    let found = encoder_bit_demand::snr_db(steps);
-    out[0] = parts::snr_db(found);
-    Ok(parts::snr_number(found))
+    let snr = Told::of_option(encoder_bit_demand::snr_db(steps), 5, 0.0);
+    out[0] = snr.value;
+    Ok(snr.number)
 }

@@ -3,8 +3,6 @@ ghost use Rattle.std.specs.Prelude.{◌≡◌, ◌<◌, get_or};
 ghost use Rattle.std.specs.Float.{nan};
 ghost use Rattle.layout.specs.Slots.{smr_row, smr_rows};
 
-use std::array;
-
 // The ratios by channel and subband; a NaN where the slice is too short.
 pub fn rows(by_slot: &[f64]) -> [[f64; 32]; 2]
     ensures { result ≡ smr_rows by_slot.now }
@@ -17,7 +15,11 @@ fn row(by_slot: &[f64], channel: usize) -> [f64; 32]
     requires { channel < 2 }
     ensures { result ≡ smr_row by_slot.now channel }
 {
-    array::from_fn(|sb| smr_at(by_slot, 32 * channel + sb))
+    let mut ratios = [f64::NAN; 32];
+    for sb in 0..32 {
+        ratios[sb] = smr_at(by_slot, 32 * channel + sb);
+    }
+    ratios
 }
 
 // The ratio of one slot.

@@ -14,4 +14,4 @@ overflow_sub-result c =
     omega (arith, one_shifted w few, pow_pos w)
 
 pub returns : goal.returns
-returns c = masked c.args.n (c.args.width % 32) (mod-lt c.args.width (lit< tt))
+returns c = rw c.wrapping_shl.ensures (masked c.args.n (c.args.width % 32) (mod-lt c.args.width (lit< tt)))

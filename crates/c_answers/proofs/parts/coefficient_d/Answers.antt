@@ -1,7 +1,0 @@
--- `c_answers::parts::coefficient_d` meets its contract: the class's, or 0.
-use lib.Ieee.{of_bits}
-use Rattle.c_answers.proofs.parts.coefficient_d.Goals as goal
-
-pub returns-in-None : goal.returns-in-None
-unfolding of_bits
-returns-in-None c = rw c.in-None.is
