@@ -11,7 +11,7 @@ loop-slot-init c = record { long = refl; each = λ k h. absurd (omega arith) }
 pub loop-slot-preserved : goal.loop-slot-preserved
 loop-slot-preserved c =
     let l = c.loop-slot in
-    one_chosen _ _ l.slot _ c.loop-slot-test.true (ap (λ (s : Scfsi). s) c.fewest_scfsi.ensures.whole) l.invariant
+    one_chosen _ _ l.slot _ c.loop-slot-test.true c.fewest_scfsi.ensures.whole l.invariant
 
 pub returns : goal.returns
 returns c = all_chosen _ _ _ c.loop-slot-test.false c.loop-slot.invariant
