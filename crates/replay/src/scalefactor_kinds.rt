@@ -1,5 +1,6 @@
 // Kinds of scalefactor indices and of their selection.
-use crate::arguments::{double, flag, scfsi_of};
+use crate::arguments::{double, flag};
+use audio_data::Scfsi;
 use encoder_scfsi::TransmissionPattern;
 use replay_answers::{Verdict, verdict_on};
 
@@ -128,6 +129,9 @@ pub fn parts_on_wire(numbers: &[u64]) -> Option<Verdict> {
     let [code, expected @ ..] = numbers else {
         return None;
     };
-    let scfsi = scfsi_of(*code)?;
+    if *code > 3 {
+        return None;
+    }
+    let scfsi = Scfsi::of_code(*code as u8);
     verdict_on(expected, &[scfsi.parts_on_wire() as u64])
 }
