@@ -1,7 +1,7 @@
 -- The questions as they are asked one after the other: those before were answered yes, so that those to come decide.
 use mathlib.Core.Path.{◌≡◌, refl, sym, ap, ap₂, ◌∙◌}
 use mathlib.Core.Bool.{true, false, true≢false}
-use mathlib.Core.List.{List, [], ◌∷◌, ◌++◌, append_assoc, map, flat_map}
+use mathlib.Core.List.{List, ◌∷◌, ◌++◌, append_assoc, map, flat_map}
 use Prim.Native.Nat.{ℕ, ◌+◌, ◌≤◌, ◌<◌}
 use native.Mathlib.Nat.{not-suc-le-zero}
 use native.Mathlib.Numerals.{add-one}
@@ -15,17 +15,19 @@ use Rattle.header.proofs.QuestionLaws.{said_yes, said_no}
 use Rattle.layout.specs.declared.Layout.{Layout}
 use Rattle.layout.specs.declared.AllocationField.{AllocationField}
 use Rattle.layout.specs.Layout.{own, fields_of, field_in}
-use Rattle.side_info.specs.SideInfo.{side_info, field_asked, scalefactor_asked}
+use Rattle.side_info.specs.declared.SideInfo.{SideInfo}
+use Rattle.side_info.specs.SideInfo.{field_asked, scalefactor_asked}
 use Rattle.side_info.proofs.FlatLaws.{flat_next, flat_end}
 use Rattle.side_info_writer.specs.declared.WriteError.{WriteError}
-use Rattle.side_info_writer.specs.OnTheWay.{question_number, found, Passed, Stopped, steps_alone, TabledAre}
+use Rattle.side_info_writer.specs.Written.{error_number}
+use Rattle.side_info_writer.specs.OnTheWay.{found, Passed, Stopped, TabledAre}
 use Rattle.side_info_writer.proofs.PlaceLaws.{place_passes, place_stops}
 
 -- ---- question 8, slot by slot
 
-module _ (slots scalefactors : List ℕ) where
+module _ (slots : List ℕ) (r : SideInfo) where
   abbrev asked : ℕ → Question ℕ
-  asked = scalefactor_asked (side_info [] [] scalefactors)
+  asked = scalefactor_asked r
 
   pub record TabledTo (k : ℕ) : Type 0 where
     pub decides : number (map asked slots) ≡ number (map asked (drop k slots))
@@ -47,10 +49,10 @@ module _ (slots scalefactors : List ℕ) where
       each = below_more (λ j. (asked (get_or slots j 0)).yes ≡ true) k so_far.each (rw (← e) t);
     }
 
-    pub one_not : (asked slot).yes ≡ false → TabledAre slots scalefactors false
+    pub one_not : (asked slot).yes ≡ false → TabledAre slots r false
     one_not t = record { answer = next ∙ said_no 0 (asked slot) (map asked (drop (k + 1) slots)) t; each = λ z. absurd (true≢false (sym z)) }
 
-  pub all_tabled : (k : ℕ) → length slots ≤ k → TabledTo k → TabledAre slots scalefactors true
+  pub all_tabled : (k : ℕ) → length slots ≤ k → TabledTo k → TabledAre slots r true
   all_tabled k h so_far = record {
     answer = so_far.decides ∙ ap (λ (xs : List ℕ). number (map asked xs)) (drop_of_length-le slots {i = k} h);
     each = λ z. record { yes = λ j m. so_far.each j (omega arith) };
@@ -58,9 +60,9 @@ module _ (slots scalefactors : List ℕ) where
 
 -- ---- questions 6 and 7, field by field
 
-module _ (l : Layout) (steps : List ℕ) where
+module _ (l : Layout) (r : SideInfo) where
   abbrev fields_asked : List AllocationField → List (Question ℕ)
-  fields_asked xs = flat_map (field_asked l (steps_alone steps)) xs
+  fields_asked xs = flat_map (field_asked l r) xs
 
   pub record PassedTo (f : ℕ) : Type 0 where
     pub decides : (rest : List (Question ℕ)) → number (fields_asked (fields_of l) ++ rest) ≡ number (fields_asked (drop f (fields_of l)) ++ rest)
@@ -70,24 +72,24 @@ module _ (l : Layout) (steps : List ℕ) where
 
   module _ (f : ℕ) (x : AllocationField) (here : f < length (fields_of l)) (e : x ≡ field_in (fields_of l) f) (channel : x.channel < 2) (so_far : PassedTo f) where
     next_field : (rest : List (Question ℕ))
-        → number (fields_asked (fields_of l) ++ rest) ≡ number (field_asked l (steps_alone steps) x ++ (fields_asked (drop (f + 1) (fields_of l)) ++ rest))
+        → number (fields_asked (fields_of l) ++ rest) ≡ number (field_asked l r x ++ (fields_asked (drop (f + 1) (fields_of l)) ++ rest))
     next_field rest =
         so_far.decides rest
         ∙ ap (λ (qs : List (Question ℕ)). number (qs ++ rest))
-        (flat_next (field_asked l (steps_alone steps)) (fields_of l) f (own 0 0) here
-        ∙ ap (λ (y : AllocationField). field_asked l (steps_alone steps) y ++ fields_asked (drop (f + 1) (fields_of l))) (sym e))
-        ∙ ap number (append_assoc (field_asked l (steps_alone steps) x) (fields_asked (drop (f + 1) (fields_of l))) rest)
+        (flat_next (field_asked l r) (fields_of l) f (own 0 0) here
+        ∙ ap (λ (y : AllocationField). field_asked l r y ++ fields_asked (drop (f + 1) (fields_of l))) (sym e))
+        ∙ ap number (append_assoc (field_asked l r x) (fields_asked (drop (f + 1) (fields_of l))) rest)
 
-    pub one_passed : (p : ℕ) → Ok p ≡ found l.table x (get_or steps x.subband 0) (get_or steps (32 + x.subband) 0) → PassedTo (f + 1)
-    one_passed p a = record { decides = λ rest. next_field rest ∙ place_passes l (steps_alone steps) x channel p a (fields_asked (drop (f + 1) (fields_of l)) ++ rest) }
+    pub one_passed : (p : ℕ) → Ok p ≡ found l.table x (get_or r.steps x.subband 0) (get_or r.steps (32 + x.subband) 0) → PassedTo (f + 1)
+    one_passed p a = record { decides = λ rest. next_field rest ∙ place_passes l r x channel p a (fields_asked (drop (f + 1) (fields_of l)) ++ rest) }
 
-    pub one_stopped : (error : WriteError) → Err error ≡ found l.table x (get_or steps x.subband 0) (get_or steps (32 + x.subband) 0)
-        → Stopped (fields_asked (fields_of l)) (question_number error)
+    pub one_stopped : (error : WriteError) → Err error ≡ found l.table x (get_or r.steps x.subband 0) (get_or r.steps (32 + x.subband) 0)
+        → Stopped (fields_asked (fields_of l)) (error_number error)
     one_stopped error a = record {
-      decides = λ rest. next_field rest ∙ place_stops l (steps_alone steps) x channel error a (fields_asked (drop (f + 1) (fields_of l)) ++ rest);
+      decides = λ rest. next_field rest ∙ place_stops l r x channel error a (fields_asked (drop (f + 1) (fields_of l)) ++ rest);
     }
 
   pub all_passed : (f : ℕ) → length (fields_of l) ≤ f → PassedTo f → Passed (fields_asked (fields_of l))
   all_passed f h so_far = record {
-    decides = λ rest. so_far.decides rest ∙ ap (λ (qs : List (Question ℕ)). number (qs ++ rest)) (flat_end (field_asked l (steps_alone steps)) (fields_of l) f h);
+    decides = λ rest. so_far.decides rest ∙ ap (λ (qs : List (Question ℕ)). number (qs ++ rest)) (flat_end (field_asked l r) (fields_of l) f h);
   }

@@ -25,7 +25,8 @@ use Rattle.side_info.specs.SideInfo.{shared_asked, row_asked, field_asked, alloc
 use Rattle.side_info.proofs.ShareLaws.{shared_is}
 use Rattle.side_info_writer.specs.declared.WriteError.{WriteError}
 use Rattle.side_info_writer.specs.declared.WriteError.TheVariants.{StepsDiffer, StepsNotInRow}
-use Rattle.side_info_writer.specs.OnTheWay.{question_number, agree, held, found_by, found}
+use Rattle.side_info_writer.specs.Written.{error_number}
+use Rattle.side_info_writer.specs.OnTheWay.{agree, held, found_by, found}
 
 -- ---- as the code finds it
 
@@ -54,7 +55,7 @@ at_only true (Some q) p e = (refl, cc)
 
 -- refused by 6 or by 7, as the first of the two says
 refused_only : (b : Bool) (o : Option ℕ) (e : WriteError) → Err e ≡ found_by b o → (rest : ℕ)
-    → ◌≡◌ {A = ℕ} (elim b [ true ↦ elim (is_some o) [ true ↦ rest | false ↦ 7 ] | false ↦ 6 ]) (question_number e)
+    → ◌≡◌ {A = ℕ} (elim b [ true ↦ elim (is_some o) [ true ↦ rest | false ↦ 7 ] | false ↦ 6 ]) (error_number e)
 refused_only false o e q rest = let z : e ≡ StepsDiffer = cc in rw z
 refused_only true None e q rest = let z : e ≡ StepsNotInRow = cc in rw z
 refused_only true (Some p) e q rest = absurd (let z : ◌≡◌ {A = ℕ} 0 1 = cc in omega arith)
@@ -99,7 +100,7 @@ module _ (l : Layout) (r : SideInfo) (x : AllocationField) (channel : x.channel 
         said_yes 0 (shared_asked r x) (row_asked l r x ∷ rest) (sym agree_is ∙ both.0) ∙ said_yes 0 (row_asked l r x) rest (ap is_some index_is)
 
   -- where it is refused, the first question that says no has the error's number
-  pub place_stops : (e : WriteError) → Err e ≡ found l.table x first second → (rest : List (Question ℕ)) → number (field_asked l r x ++ rest) ≡ question_number e
+  pub place_stops : (e : WriteError) → Err e ≡ found l.table x first second → (rest : List (Question ℕ)) → number (field_asked l r x ++ rest) ≡ error_number e
   unfolding found
   place_stops e q rest =
       ap₂ (λ (b : Bool) (m : ℕ). elim b [ true ↦ elim (is_some (index_of l.table x.subband m)) [ true ↦ number rest | false ↦ 7 ] | false ↦ 6 ]) (sym agree_is) (sym held_is)

@@ -13,38 +13,35 @@ use Rattle.header.specs.Questions.{Question, number}
 use Rattle.header.proofs.QuestionLaws.{behind, all_yes, some_no}
 use Rattle.layout.specs.declared.Layout.{Layout}
 use Rattle.layout.specs.Layout.{fields_of, sum_over}
-use Rattle.audio_data.specs.declared.Scfsi.{Scfsi}
 use Rattle.encoder_bit_budget.specs.declared.FixedBitBudget.{FixedBitBudget}
 use Rattle.encoder_bit_budget.specs.declared.BitAllocError.{BitAllocError}
-use Rattle.encoder_bit_budget.specs.Budget.{plain, header_asked, error_number, budget_in, budget_of, layout_in}
+use Rattle.encoder_bit_budget.specs.Budget.{plain, header_asked, budget_in, budget_of, layout_in}
+use Rattle.encoder_bit_budget.specs.Budget as budget
 use Rattle.encoder_bit_budget.proofs.BudgetLaws.{refusing_header, apart, answer_is}
 use Rattle.bit_string.specs.Bits.{packed, unpacked}
 use Rattle.bit_string.proofs.PackLaws.{unpacked_packed}
 use Rattle.side_info.specs.declared.SideInfo.{SideInfo}
-use Rattle.side_info.specs.SideInfo.{side_info, header_layout, active_slots, allocation_field_bits, scfsi_bits, scalefactor_bits, side_info_bits, field_asked, scalefactor_asked, record_asked, slot_count}
+use Rattle.side_info.specs.SideInfo.{header_layout, active_slots, allocation_field_bits, scfsi_bits, scalefactor_bits, side_info_bits, field_asked, scalefactor_asked, record_asked, slot_count}
 use Rattle.side_info.proofs.CountLaws.{slots_count, slot_most, counted, most}
 use Rattle.side_info.proofs.FlatLaws.{sum_most}
 use Rattle.side_info.proofs.HeaderLaws.{same_layout}
-use Rattle.active_slots.specs.declared.slots.ActiveSlots.{ActiveSlots}
 use Rattle.side_info_writer.specs.declared.WriteError.{WriteError}
-use Rattle.side_info_writer.specs.declared.WriteError.TheVariants.{StepsDiffer, StepsNotInRow, IndexNotInTable}
-use Rattle.side_info_writer.specs.Written.{WrittenAnswer, written, where_zero, writer_asked, written_of, WrittenIs}
-use Rattle.side_info_writer.specs.OnTheWay.{question_number, Passed, Stopped, TabledAre, written_under}
-use Rattle.active_slots.specs.Active.{listed, ActiveAre}
+use Rattle.side_info_writer.specs.declared.WriteError.TheVariants.{Header, StepsDiffer, StepsNotInRow, IndexNotInTable}
+use Rattle.side_info_writer.specs.Written.{WrittenAnswer, error_number, written, where_zero, writer_asked, written_of, written_in, WrittenIs}
+use Rattle.side_info_writer.specs.OnTheWay.{Passed, Stopped, TabledAre, written_under}
 
 -- ---- behind the allocation
 
 -- the allocation fields have 188 bits at most, and the other sections 20 for each slot
-module _ (slots : List ℕ) (few : length slots ≤ 60) (scfsi : List Scfsi) (scalefactors : List ℕ) (fields : List Bool) (near : length fields ≤ 188) where
+module _ (slots : List ℕ) (few : length slots ≤ 60) (r : SideInfo) (fields : List Bool) (near : length fields ≤ 188) where
   abbrev scfsis : List Bool
-  scfsis = flat_map (scfsi_bits (side_info [] scfsi [])) slots
+  scfsis = flat_map (scfsi_bits r) slots
 
   abbrev indices : List Bool
-  indices = flat_map (scalefactor_bits (side_info [] scfsi scalefactors)) slots
+  indices = flat_map (scalefactor_bits r) slots
 
   both_long : length scfsis + length indices ≤ 1200
   both_long =
-      let r = side_info [] scfsi scalefactors in
       let c : length scfsis + length indices ≡ sum_over (slot_count r) slots = slots_count r slots in
       omega (arith, sum_most (slot_count r) 20 (slot_most r) slots)
 
@@ -56,15 +53,19 @@ module _ (slots : List ℕ) (few : length slots ≤ 60) (scfsi : List Scfsi) (sc
 
 -- ---- the answers in a layout
 
-module _ (l : Layout) (steps : List ℕ) (scfsi : List Scfsi) (scalefactors : List ℕ) where
-  abbrev r : SideInfo
-  r = side_info steps scfsi scalefactors
+-- no refusal has the number of an accepted record
+refusing : (e : WriteError) → eqb (error_number e) 0 ≡ false
+refusing (Header e) = apart e
+refusing StepsDiffer = refl
+refusing StepsNotInRow = refl
+refusing IndexNotInTable = refl
 
+module _ (l : Layout) (r : SideInfo) where
   abbrev questions : List (Question ℕ)
   questions = flat_map (field_asked l r) (fields_of l)
 
   abbrev slot_questions : List (Question ℕ)
-  slot_questions = map (scalefactor_asked r) (active_slots l steps)
+  slot_questions = map (scalefactor_asked r) (active_slots l r.steps)
 
   decided : (n : ℕ) → number (questions ++ slot_questions) ≡ n → number (record_asked l r) ≡ n
   unfolding record_asked
@@ -75,18 +76,18 @@ module _ (l : Layout) (steps : List ℕ) (scfsi : List Scfsi) (scalefactors : Li
   stopped n s = decided n (s.decides slot_questions)
 
   -- none is
-  module _ (passed : Passed questions) (a : ActiveSlots) (active : ActiveAre l steps a) where
-    pub answered : (v : Bool) → TabledAre (listed a) scalefactors v → number (record_asked l r) ≡ cond v 0 8
+  module _ (passed : Passed questions) (slots : List ℕ) (active : slots ≡ active_slots l r.steps) where
+    pub answered : (v : Bool) → TabledAre slots r v → number (record_asked l r) ≡ cond v 0 8
     answered v t =
         decided (cond v 0 8)
-        (passed.decides slot_questions ∙ ap (λ (xs : List ℕ). number (map (scalefactor_asked r) xs)) (sym active.whole) ∙ t.answer)
+        (passed.decides slot_questions ∙ ap (λ (xs : List ℕ). number (map (scalefactor_asked r) xs)) (sym active) ∙ t.answer)
 
     pub sections_are : (fields : List Bool) → fields ≡ flat_map (allocation_field_bits l r) (fields_of l)
-        → (fields ++ flat_map (scfsi_bits r) (listed a)) ++ flat_map (scalefactor_bits r) (listed a) ≡ side_info_bits l r
+        → (fields ++ flat_map (scfsi_bits r) slots) ++ flat_map (scalefactor_bits r) slots ≡ side_info_bits l r
     unfolding side_info_bits
     sections_are fields e =
-        append_assoc fields (flat_map (scfsi_bits r) (listed a)) (flat_map (scalefactor_bits r) (listed a))
-        ∙ ap₂ (λ (bs : List Bool) (xs : List ℕ). bs ++ (flat_map (scfsi_bits r) xs ++ flat_map (scalefactor_bits r) xs)) e active.whole
+        append_assoc fields (flat_map (scfsi_bits r) slots) (flat_map (scalefactor_bits r) slots)
+        ∙ ap₂ (λ (bs : List Bool) (xs : List ℕ). bs ++ (flat_map (scfsi_bits r) xs ++ flat_map (scalefactor_bits r) xs)) e active
 
   under : (n : ℕ) → number (record_asked l r) ≡ n → written n (where_zero n (side_info_bits l r)) ≡ written_under l r
   unfolding written_under
@@ -96,13 +97,8 @@ module _ (l : Layout) (steps : List ℕ) (scfsi : List Scfsi) (scalefactors : Li
       → record { number = 0; bytes = bytes; bits_used = used } ≡ written_under l r
   accepted bits bytes used z e p u = (λ i. record { number = 0; bytes = p i; bits_used = u i }) ∙ ap (written 0) e ∙ under 0 z
 
-  pub not_written : (e : WriteError) (n : ℕ) (w : WrittenAnswer) → number (record_asked l r) ≡ question_number e → n ≡ question_number e → w ≡ written n [] → w ≡ written_under l r
-  not_written e n w z s made = made ∙ ap (λ (m : ℕ). written m []) s ∙ none e ∙ under (question_number e) z
-    where
-      none : (e : WriteError) → written (question_number e) [] ≡ written (question_number e) (where_zero (question_number e) (side_info_bits l r))
-      none StepsDiffer = refl
-      none StepsNotInRow = refl
-      none IndexNotInTable = refl
+  pub not_written : (e : WriteError) → number (record_asked l r) ≡ error_number e → written_in (Err e) ≡ written_under l r
+  not_written e z = ap (λ (v : Bool). written (error_number e) (cond v (side_info_bits l r) [])) (sym (refusing e)) ∙ under (error_number e) z
 
 -- ---- the whole answer
 
@@ -115,16 +111,14 @@ module _ (h : FrameHeader) (r : SideInfo) where
   of_number n e = ap (λ (m : ℕ). written m (where_zero m bits)) (sym e)
 
   -- the header is refused
-  pub from_refused : (e : BitAllocError) (n : ℕ) (w : WrittenAnswer) → budget_in (Err e) ≡ budget_of (plain h 0) → n ≡ error_number e → w ≡ written n []
-      → w ≡ written_of h r
-  from_refused e n w p s made =
-      let z : number (header_asked h) ≡ error_number e = sym (answer_is (plain h 0)) ∙ sym (ap (λ a. a.answer) p) in
-      let first : number (writer_asked h r) ≡ error_number e =
+  pub from_refused : (e : BitAllocError) → budget_in (Err e) ≡ budget_of (plain h 0) → written_in (Err (Header e)) ≡ written_of h r
+  from_refused e p =
+      let n = budget.error_number e in
+      let z : number (header_asked h) ≡ n = sym (answer_is (plain h 0)) ∙ sym (ap (λ a. a.answer) p) in
+      let first : number (writer_asked h r) ≡ n =
       behind 0 (header_asked h) (record_asked (header_layout h) r)
       ∙ some_no (number (record_asked (header_layout h) r)) (header_asked h) (rw z (apart e)) ∙ z in
-      made ∙ ap (λ (m : ℕ). written m []) s
-      ∙ ap (λ (v : Bool). written (error_number e) (cond v bits [])) (sym (apart e))
-      ∙ of_number (error_number e) first
+      ap (λ (v : Bool). written n (cond v bits [])) (sym (apart e)) ∙ of_number n first
 
   module _ (b : FixedBitBudget) (ok : budget_in (Ok b) ≡ budget_of (plain h 0)) where
     -- it is accepted

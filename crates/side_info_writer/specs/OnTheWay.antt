@@ -10,7 +10,7 @@ use Rattle.layout.specs.declared.AllocationField.{AllocationField}
 use Rattle.audio_data.specs.Scfsi.{Three, three}
 use Rattle.bit_string.specs.Bits.{bits_of, packed}
 use Rattle.side_info.specs.declared.SideInfo.{SideInfo}
-use Rattle.side_info.specs.SideInfo.{side_info, scalefactor_asked, record_asked, side_info_bits}
+use Rattle.side_info.specs.SideInfo.{scalefactor_asked, record_asked, side_info_bits}
 use Rattle.side_info_writer.specs.declared.WriteError.{WriteError}
 use Rattle.side_info_writer.specs.declared.WriteError.TheVariants.{StepsDiffer, StepsNotInRow}
 use Rattle.side_info_writer.specs.Written.{WrittenAnswer, written, where_zero}
@@ -41,10 +41,6 @@ pub record Passed (qs : List (Question ℕ)) : Type 0 where
 pub record Stopped (qs : List (Question ℕ)) (n : ℕ) : Type 0 where
   pub decides : (rest : List (Question ℕ)) → number (qs ++ rest) ≡ n
 
--- the record as far as its fields are asked
-abbrev pub steps_alone : List ℕ → SideInfo
-steps_alone steps = side_info steps [] []
-
 -- ---- the indices
 
 -- those of a slot, one for each granule
@@ -55,13 +51,13 @@ abbrev pub three_in : List ℕ → Three
 three_in indices = three (get_or indices 0 0) (get_or indices 1 0) (get_or indices 2 0)
 
 -- question 8 is answered yes of every slot
-pub record EachTabled (slots scalefactors : List ℕ) : Type 0 where
-  pub yes : (k : ℕ) → k < length slots → (scalefactor_asked (side_info [] [] scalefactors) (get_or slots k 0)).yes ≡ true
+pub record EachTabled (slots : List ℕ) (r : SideInfo) : Type 0 where
+  pub yes : (k : ℕ) → k < length slots → (scalefactor_asked r (get_or slots k 0)).yes ≡ true
 
 -- whether it is
-pub record TabledAre (slots scalefactors : List ℕ) (r : Bool) : Type 0 where
-  pub answer : number (map (scalefactor_asked (side_info [] [] scalefactors)) slots) ≡ cond r 0 8
-  pub each : r ≡ true → EachTabled slots scalefactors
+pub record TabledAre (slots : List ℕ) (r : SideInfo) (v : Bool) : Type 0 where
+  pub answer : number (map (scalefactor_asked r) slots) ≡ cond v 0 8
+  pub each : v ≡ true → EachTabled slots r
 
 abbrev pub where_sent : Bool → ℕ → List Bool
 where_sent b i = cond b (bits_of 6 i) []

@@ -91,11 +91,7 @@ fn write_under(layout: Layout, info: &SideInfo) -> Result<WrittenSideInfo, Write
 }
 
 // The allocation fields, scfsi and scalefactors: the fields are asked as they are written, then the indices.
-fn write_sections(
-    layout: Layout,
-    info: &SideInfo,
-    writer: &mut BitWriter,
-) -> Result<(), WriteError>
+fn write_sections(layout: Layout, info: &SideInfo, writer: &mut BitWriter) -> Result<(), WriteError>
     requires { writer.old ≡ [] }
     ensures asked { MatchResult result (λ _. number (record_asked layout info.now) ≡ 0) (λ e. number (record_asked layout info.now) ≡ error_number e) }
     ensures written { OnOk result (writer.new ≡ side_info_bits layout info.now) }

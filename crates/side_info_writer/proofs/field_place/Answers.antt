@@ -1,5 +1,5 @@
 -- `side_info_writer::field_place` meets its contract: each return has its law of the place.
-use mathlib.Core.Path.{sym, ap, ◌∙◌}
+use mathlib.Core.Path.{sym, ◌∙◌}
 use Rattle.side_info_writer.proofs.PlaceLaws.{unequal, there, missing}
 use Rattle.side_info_writer.proofs.field_place.Goals as goal
 

@@ -1,10 +1,10 @@
-use mathlib.Core.List.{[], ◌++◌, flat_map}
+use mathlib.Core.List.{◌++◌, flat_map}
 use mathlib.Core.Path.{◌≡◌}
 use lib.ListN.{drop}
-use Rattle.side_info.specs.SideInfo.{side_info, scfsi_bits}
+use Rattle.side_info.specs.SideInfo.{scfsi_bits}
 use Rattle.side_info_writer.proofs.write_scfsi.Given as goal
 
 abbrev pub invariant-loop-slot : goal.invariant-loop-slot
 invariant-loop-slot l =
-    l.writer ++ flat_map (scfsi_bits (side_info [] l.scfsi [])) (drop l.slot-index (l.slot-items))
-    ≡ l.initial.writer ++ flat_map (scfsi_bits (side_info [] l.scfsi [])) (l.slot-items)
+    l.writer ++ flat_map (scfsi_bits l.info) (drop l.slot-index (l.slot-items))
+    ≡ l.initial.writer ++ flat_map (scfsi_bits l.info) (l.slot-items)
