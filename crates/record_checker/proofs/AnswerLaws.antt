@@ -19,10 +19,10 @@ use Rattle.record_check.proofs.PromiseLaws.{slots_answer, header_refused, header
 use Rattle.record_checker.specs.OnTheWay.{check_under}
 
 module _ (h : FrameHeader) (s : SideInfo) where
-  pub from_refused : (e : BitAllocError) (n : ℕ) → budget_in (Err e) ≡ budget_of (plain h 0) → n ≡ error_number e → about_none n ≡ check_of h s
-  from_refused e n p is =
+  pub from_refused : (e : BitAllocError) → budget_in (Err e) ≡ budget_of (plain h 0) → about_none (error_number e) ≡ check_of h s
+  from_refused e p =
       let z : number (header_asked h) ≡ error_number e = sym (answer_is (plain h 0)) ∙ sym (ap (λ a. a.answer) p) in
-      ap about_none (is ∙ sym z) ∙ sym (header_refused h s (ap (λ (m : ℕ). eqb m 0) z ∙ apart e))
+      ap about_none (sym z) ∙ sym (header_refused h s (ap (λ (m : ℕ). eqb m 0) z ∙ apart e))
 
   under : (l : Layout) → check_under l s ≡ slots_answer l s in_order
   unfolding check_under slots_asked

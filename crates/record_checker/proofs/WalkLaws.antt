@@ -18,7 +18,8 @@ use Rattle.record_check.proofs.TurnLaws.{next_passes, next_refuses, all_turns, a
 use Rattle.record_check.proofs.PromiseLaws.{slots_answer}
 use Rattle.record_checker.specs.declared.SlotError.{SlotError}
 use Rattle.record_checker.specs.declared.SlotError.TheVariants.{NotCarried, StepsDiffer, IndicesDiffer}
-use Rattle.record_checker.specs.OnTheWay.{error_number, check_under}
+use Rattle.record_checker.specs.Errors.{slot_number}
+use Rattle.record_checker.specs.OnTheWay.{check_under}
 
 module _ (l : Layout) (s : SideInfo) where
   pub record AskedTo (k : ℕ) : Type 0 where
@@ -50,7 +51,7 @@ module _ (l : Layout) (s : SideInfo) where
         ∙ sym (next ∙ next_refuses (slot_asked l s) (slot_refusing l s) about_slot (about_none 0) slot (drop (k + 1) in_order) (ap (λ (m : ℕ). eqb m 0) (sym is) ∙ z))
 
   -- by the number of an error
-  pub one_refused : (k n : ℕ) (here : k < 64) (so_far : AskedTo k) (is : n ≡ number (slot_asked l s (slot_of (k % 2) (k / 2)))) (e : SlotError) → n ≡ error_number e
+  pub one_refused : (k n : ℕ) (here : k < 64) (so_far : AskedTo k) (is : n ≡ number (slot_asked l s (slot_of (k % 2) (k / 2)))) (e : SlotError) → n ≡ slot_number e
       → checked n (k / 2) (k % 2) ≡ check_under l s
   one_refused k n here so_far is NotCarried z = refused k n here so_far is (ap (λ (m : ℕ). eqb m 0) z)
   one_refused k n here so_far is StepsDiffer z = refused k n here so_far is (ap (λ (m : ℕ). eqb m 0) z)

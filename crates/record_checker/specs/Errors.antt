@@ -13,7 +13,10 @@ slot_number NotCarried = 17
 slot_number StepsDiffer = 6
 slot_number IndicesDiffer = 18
 
+abbrev pub error_in : RecordError → CheckAnswer
+error_in (Header e) = about_none (error_number e)
+error_in (Slot e sb ch) = checked (slot_number e) sb ch
+
 abbrev pub check_in : {X : Type 0} → Result X RecordError → CheckAnswer
 check_in (Ok x) = about_none 0
-check_in (Err (Header e)) = about_none (error_number e)
-check_in (Err (Slot e sb ch)) = checked (slot_number e) sb ch
+check_in (Err e) = error_in e

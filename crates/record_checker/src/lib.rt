@@ -1,12 +1,15 @@
 // The check of a record of side information: whether its steps, scfsi and scalefactor indices hang together in a header's layout.
 #![tactic(auto)]
 
-ghost use Rattle.std.specs.Prelude.{◌≡◌, slice_index, Err};
-ghost use Rattle.audio_data.specs.Scfsi.{three, agreeing};
-ghost use Rattle.record_check.specs.Check.{CheckIs};
+ghost use Rattle.std.specs.Prelude.{◌≡◌, ◌<◌};
+ghost use Rattle.header.specs.Questions.{number};
+ghost use Rattle.layout.specs.Slots.{slot_of};
+ghost use Rattle.audio_data.specs.Scfsi.{agreeing};
+ghost use Rattle.side_info.specs.SideInfo.{scfsi_in, scalefactors_in};
+ghost use Rattle.record_check.specs.Check.{slot_asked, CheckIs};
 ghost use Rattle.record_checker.specs.declared.RecordError.TheVariants.{Header};
-ghost use Rattle.record_checker.specs.Errors.{slot_number, check_in};
-ghost use Rattle.record_checker.specs.OnTheWay.{refusal_number, served_refusal, slot_refusal, check_under};
+ghost use Rattle.record_checker.specs.Errors.{slot_number, error_in, check_in};
+ghost use Rattle.record_checker.specs.OnTheWay.{refusal_number, check_under};
 
 use audio_data::Scfsi;
 use encoder_bit_budget::BitAllocError;
@@ -44,13 +47,17 @@ pub enum RecordError {
     // The header has no budget.
     Header(BitAllocError),
     // The first slot in turn that is refused.
-    Slot { error: SlotError, subband: u32, channel: u32 },
+    Slot {
+        error: SlotError,
+        subband: u32,
+        channel: u32,
+    },
 }
 
 impl RecordError {
     // The answer's number.
     pub fn number(self) -> u32
-        ensures { result ≡ (check_in (Err self)).number }
+        ensures { result ≡ (error_in self).number }
     {
         match self {
             RecordError::Header(error) => error.number(),
@@ -83,13 +90,7 @@ fn check_under(layout: Layout, info: &SideInfo) -> Result<(), RecordError>
     for k in 0..64 {
         let sb = k / 2;
         let ch = k % 2;
-        let slot = 32 * ch + sb;
-        let at = 3 * slot;
-        let indices = [info.scalefactors[at], info.scalefactors[at + 1], info.scalefactors[at + 2]];
-        let agreed = agreeing(info.scfsi[slot], indices);
-        let empty = info.steps[slot] == 0;
-        let equal = info.steps[32 + sb] == info.steps[sb];
-        if let Err(error) = check_slot(layout, ch, sb, empty, equal, agreed) {
+        if let Err(error) = check_slot(layout, ch, sb, info) {
             return Err(RecordError::Slot {
                 error,
                 subband: sb as u32,
@@ -100,11 +101,18 @@ fn check_under(layout: Layout, info: &SideInfo) -> Result<(), RecordError>
     Ok(())
 }
 
-// Whether granules that share an index have the same.
-fn agreeing(scfsi: Scfsi, indices: [u8; 3]) -> bool
-    ensures { result ≡ agreeing scfsi (three (slice_index indices 0) (slice_index indices 1) (slice_index indices 2)) }
+// Whether a slot's granules that share an index have the same.
+fn agreeing(info: &SideInfo, slot: usize) -> bool
+    requires { slot < 64 }
+    ensures { result ≡ agreeing (scfsi_in info.now slot) (scalefactors_in info.now slot) }
 {
-    match scfsi {
+    let at = 3 * slot;
+    let indices = [
+        info.scalefactors[at],
+        info.scalefactors[at + 1],
+        info.scalefactors[at + 2],
+    ];
+    match info.scfsi[slot] {
         Scfsi::ThreePerGranule => true,
         Scfsi::Share01Then2 => indices[0] == indices[1],
         Scfsi::ShareAll => (indices[0] == indices[1]) & (indices[1] == indices[2]),
@@ -112,41 +120,28 @@ fn agreeing(scfsi: Scfsi, indices: [u8; 3]) -> bool
     }
 }
 
-// Whether a slot passes: from whether it has no steps, whether its subband's channels have the same steps, and whether its indices agree with its scfsi.
-fn check_slot(
-    layout: Layout,
-    ch: usize,
-    sb: usize,
-    empty: bool,
-    equal: bool,
-    agreed: bool,
-) -> Result<(), SlotError>
-    ensures { refusal_number result ≡ slot_refusal layout ch sb empty equal agreed }
+// Whether a slot passes: one that no field serves is empty; where a field serves both channels, they have the same steps; and a slot with steps has indices
+// that agree with its scfsi.
+fn check_slot(layout: Layout, ch: usize, sb: usize, info: &SideInfo) -> Result<(), SlotError>
+    requires channel { ch < 2 }
+    requires subband { sb < 32 }
+    ensures { refusal_number result ≡ number (slot_asked layout info.now (slot_of ch sb)) }
 {
-    let serving = layout.field_serving(ch, sb);
-    match serving {
-        Some(number) => {
-            let field = layout.field(number as usize);
-            check_served(field.both, equal, empty | agreed)
-        }
-        None => {
-            if empty {
-                Ok(())
-            } else {
-                Err(SlotError::NotCarried)
-            }
-        }
-    }
-}
-
-// Whether a slot that a field serves passes.
-fn check_served(both: bool, equal: bool, free: bool) -> Result<(), SlotError>
-    ensures { refusal_number result ≡ served_refusal both equal free }
-{
-    if both & !equal {
+    let slot = 32 * ch + sb;
+    let empty = info.steps[slot] == 0;
+    let Some(number) = layout.field_serving(ch, sb) else {
+        return if empty {
+            Ok(())
+        } else {
+            Err(SlotError::NotCarried)
+        };
+    };
+    let field = layout.field(number as usize);
+    let equal = info.steps[32 + sb] == info.steps[sb];
+    if field.both & !equal {
         return Err(SlotError::StepsDiffer);
     }
-    if !free {
+    if !(empty | agreeing(info, slot)) {
         return Err(SlotError::IndicesDiffer);
     }
     Ok(())

@@ -1,16 +1,26 @@
 -- `record_checker::check_slot` meets its contract: the field that serves the slot decides.
-use mathlib.Core.Path.{sym, ap, ◌∙◌}
-use Rattle.record_checker.proofs.RefusalLaws.{by_none, by_field}
+use mathlib.Core.Path.{refl, sym, ◌∙◌}
+use mathlib.Core.Bool.{true, false}
+use Rattle.record_checker.proofs.RefusalLaws.{none_empty, none_active, by_field}
 use Rattle.record_checker.proofs.check_slot.Goals as goal
 
-pub returns-in-Some : goal.returns-in-Some
-returns-in-Some c =
-    by_field _ _ _ _ _ _ _ _ _ ((sym c.in-Some.is) ∙ c.field_serving-serving.ensures.whole) c.field-field.ensures.whole c.check_served.ensures
-
 pub returns-then-empty : goal.returns-then-empty
-returns-then-empty c =
-    by_none _ _ _ _ _ _ _ ((sym c.in-None.is) ∙ c.field_serving-serving.ensures.whole) (rw c.if-empty.true)
+returns-then-empty c = none_empty _ _ _ _ c.requires.channel c.requires.subband (sym c.in_default.is ∙ c.field_serving.ensures.whole) c.if-empty.true
 
 pub returns-else-empty : goal.returns-else-empty
-returns-else-empty c =
-    by_none _ _ _ _ _ _ _ ((sym c.in-None.is) ∙ c.field_serving-serving.ensures.whole) (rw c.if-empty.false)
+returns-else-empty c = none_active _ _ _ _ c.requires.channel c.requires.subband (sym c.in_default.is ∙ c.field_serving.ensures.whole) c.if-empty.false
+
+pub returns-then-field-equal : goal.returns-then-field-equal
+returns-then-field-equal c =
+    by_field _ _ _ _ c.requires.channel c.requires.subband _ _ (sym c.in-Some.is ∙ c.field_serving.ensures.whole) c.field-field.ensures.whole _ true _ refl
+    c.if-field-equal.true refl
+
+pub returns-then-not-empty-agreeing : goal.returns-then-not-empty-agreeing
+returns-then-not-empty-agreeing c =
+    by_field _ _ _ _ c.requires.channel c.requires.subband _ _ (sym c.in-Some.is ∙ c.field_serving.ensures.whole) c.field-field.ensures.whole _ false false
+    c.agreeing.ensures c.if-field-equal.false c.if-not-empty-agreeing.true
+
+pub returns : goal.returns
+returns c =
+    by_field _ _ _ _ c.requires.channel c.requires.subband _ _ (sym c.in-Some.is ∙ c.field_serving.ensures.whole) c.field-field.ensures.whole _ false true
+    c.agreeing.ensures c.if-field-equal.false c.if-not-empty-agreeing.false
