@@ -119,7 +119,7 @@ written_same h r s a =
 -- the chosen scfsi of a slot
 pub scfsi_chosen : (s : SideInfo) (slot : ℕ) → slot < 64 → scfsi_in (canonical s) slot ≡ fewest_scfsi (scalefactors_in s slot)
 unfolding chosen
-scfsi_chosen s slot h = ap (λ (x : Scfsi). x.scfsi) (tabulated 64 (λ k. fewest_scfsi (scalefactors_in s k)) slot idle_scfsi h)
+scfsi_chosen s slot h = tabulated 64 (λ k. fewest_scfsi (scalefactors_in s k)) slot idle_scfsi h
 
 module _ (l : Layout) where
   -- their canonical records agree where the writer looks

@@ -65,8 +65,7 @@ module _ (l : Layout) (s : SideInfo) where
     scfsi_bare : scfsi_in bare slot ≡ fewest_scfsi (scalefactors_in s slot)
     unfolding bare
     scfsi_bare =
-        ap (λ (x : Scfsi). x.scfsi)
-        (tabulated 64 scfsi_at slot idle_scfsi small ∙ ap (λ (b : Bool). cond b (fewest_scfsi (scalefactors_in s slot)) idle_scfsi) e)
+        tabulated 64 scfsi_at slot idle_scfsi small ∙ ap (λ (b : Bool). cond b (fewest_scfsi (scalefactors_in s slot)) idle_scfsi) e
 
     index_bare : (k : ℕ) → k / 3 ≡ slot → get_or bare.scalefactors k 0 ≡ get_or s.scalefactors k 0
     unfolding bare
@@ -86,8 +85,7 @@ module _ (l : Layout) (s : SideInfo) where
     scfsi_idle : scfsi_in bare slot ≡ ThreePerGranule
     unfolding bare
     scfsi_idle =
-        ap (λ (x : Scfsi). x.scfsi)
-        (or_behind 64 scfsi_at slot idle_scfsi (λ h. ap (λ (b : Bool). cond b (fewest_scfsi (scalefactors_in s slot)) idle_scfsi) e))
+        or_behind 64 scfsi_at slot idle_scfsi (λ h. ap (λ (b : Bool). cond b (fewest_scfsi (scalefactors_in s slot)) idle_scfsi) e)
 
     index_idle : (k : ℕ) → k / 3 ≡ slot → get_or bare.scalefactors k 0 ≡ 0
     unfolding bare

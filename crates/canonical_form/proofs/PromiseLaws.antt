@@ -125,7 +125,7 @@ module _ (h : FrameHeader) where
   one_record s t a b e =
       let l = header_layout h in
       let same : bare l s ≡ bare l t =
-      ap record_in (sym (is_read h s (both_accepted s a)) ∙ ap (read_of h) e ∙ is_read h t (both_accepted t b)) in
+      ap (λ (v : ReadAnswer). v.info) (sym (is_read h s (both_accepted s a)) ∙ ap (read_of h) e ∙ is_read h t (both_accepted t b)) in
       says_on l s (bare l s) t (says_bare l s)
       (subst (λ (p : SideInfo). SaysTheSame l p t) (sym same) (says_turned l t (bare l t) (says_bare l t)))
 

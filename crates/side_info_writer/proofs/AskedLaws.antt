@@ -1,9 +1,8 @@
 -- The questions as they are asked one after the other: those before were answered yes, so that those to come decide.
-use mathlib.Core.Path.{◌≡◌, refl, sym, ap, ap₂, ◌∙◌}
+use mathlib.Core.Path.{◌≡◌, sym, ap, ap₂, ◌∙◌}
 use mathlib.Core.Bool.{true, false, true≢false}
 use mathlib.Core.List.{List, ◌∷◌, ◌++◌, append_assoc, map, flat_map}
 use Prim.Native.Nat.{ℕ, ◌+◌, ◌≤◌, ◌<◌}
-use native.Mathlib.Nat.{not-suc-le-zero}
 use native.Mathlib.Numerals.{add-one}
 use native.Mathlib.Omega.{arith}
 use lib.ListN.{length, get_or, drop, drop_of_length-le}
@@ -32,9 +31,6 @@ module _ (slots : List ℕ) (r : SideInfo) where
   pub record TabledTo (k : ℕ) : Type 0 where
     pub decides : number (map asked slots) ≡ number (map asked (drop k slots))
     pub each : (j : ℕ) → j < k → (asked (get_or slots j 0)).yes ≡ true
-
-  pub none_tabled : TabledTo 0
-  none_tabled = record { decides = refl; each = λ j h. absurd (not-suc-le-zero h) }
 
   module _ (k slot : ℕ) (here : k < length slots) (e : slot ≡ get_or slots k 0) (so_far : TabledTo k) where
     next : number (map asked slots) ≡ number (asked slot ∷ map asked (drop (k + 1) slots))
@@ -66,9 +62,6 @@ module _ (l : Layout) (r : SideInfo) where
 
   pub record PassedTo (f : ℕ) : Type 0 where
     pub decides : (rest : List (Question ℕ)) → number (fields_asked (fields_of l) ++ rest) ≡ number (fields_asked (drop f (fields_of l)) ++ rest)
-
-  pub none_passed : PassedTo 0
-  none_passed = record { decides = λ rest. refl }
 
   module _ (f : ℕ) (x : AllocationField) (here : f < length (fields_of l)) (e : x ≡ field_in (fields_of l) f) (channel : x.channel < 2) (so_far : PassedTo f) where
     next_field : (rest : List (Question ℕ))
