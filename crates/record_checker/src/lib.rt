@@ -17,31 +17,29 @@ use header::FrameHeader;
 use layout::Layout;
 use side_info::SideInfo;
 
-// Why a slot is refused.
+// Why a slot is refused, each reason with its number.
 #[derive(Clone, Copy, Debug, PartialEq, Eq)]
 pub enum SlotError {
     // It has steps, and the layout does not carry it.
-    NotCarried,
+    NotCarried = 17,
     // The channels that its field serves have different steps.
-    StepsDiffer,
+    StepsDiffer = 6,
     // Its scfsi says that granules share an index, and they have different ones.
-    IndicesDiffer,
+    IndicesDiffer = 18,
 }
 
 impl SlotError {
     // The number of the question that says no.
+    // Kept: C is answered by these numbers; they are the discriminants.
     pub fn number(self) -> u32
         ensures { result ≡ slot_number self }
     {
-        match self {
-            SlotError::NotCarried => 17,
-            SlotError::StepsDiffer => 6,
-            SlotError::IndicesDiffer => 18,
-        }
+        self as u32
     }
 }
 
 // Why a record does not pass.
+// Kept: both cases are causes, and neither is a missing value: what is answered is std's `Result`, with this as its error.
 #[derive(Clone, Copy, Debug, PartialEq, Eq)]
 pub enum RecordError {
     // The header has no budget.
@@ -56,6 +54,7 @@ pub enum RecordError {
 
 impl RecordError {
     // The answer's number.
+    // Kept: C is answered by numbers, and each case of this enum takes its number from what it holds.
     pub fn number(self) -> u32
         ensures { result ≡ (error_in self).number }
     {
@@ -67,10 +66,10 @@ impl RecordError {
 }
 
 impl From<BitAllocError> for RecordError {
-    ghost from_gives = { λ error refusal. refusal ≡ Header error };
+    ghost from_gives = { λ refusal error. error ≡ Header refusal };
 
-    fn from(error: BitAllocError) -> RecordError {
-        RecordError::Header(error)
+    fn from(refusal: BitAllocError) -> RecordError {
+        RecordError::Header(refusal)
     }
 }
 
@@ -137,11 +136,12 @@ fn check_slot(layout: Layout, ch: usize, sb: usize, info: &SideInfo) -> Result<(
         };
     };
     let field = layout.field(number as usize);
-    let equal = info.steps[32 + sb] == info.steps[sb];
-    if field.both & !equal {
+    let free = empty | agreeing(info, slot);
+    let differ = field.both & (info.steps[32 + sb] != info.steps[sb]);
+    if differ {
         return Err(SlotError::StepsDiffer);
     }
-    if !(empty | agreeing(info, slot)) {
+    if !free {
         return Err(SlotError::IndicesDiffer);
     }
     Ok(())

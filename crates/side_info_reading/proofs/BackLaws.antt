@@ -63,7 +63,7 @@ module _ (l : Layout) (r : SideInfo) (whole : Restorable l r) (yes : RecordYes l
       (λ slot h. record { taken = scfsi_sent slot (get_or r.scfsi slot idle_scfsi); held = ((rw whole.scfsi_long h, refl), tt) })
       active (active_below l r.steps))
       (length-replicate 64 idle_scfsi ∙ sym whole.scfsi_long)
-      (or_else idle_scfsi 64 r.scfsi _ active (alone active) (λ k e. let i = (whole.idle k e).0 in λ j. i j))
+      (or_else idle_scfsi 64 r.scfsi _ active (alone active) (λ k e. (whole.idle k e).0))
 
   -- ---- the scalefactors
 

@@ -67,7 +67,7 @@ module _ (slots : List ℕ) (different : Distinct slots) (small : Each (λ k. k 
 
   module _ (scfsi : List Scfsi) where
     abbrev scfsi_of : ℕ → Scfsi
-    scfsi_of slot = (get_or scfsi slot idle_scfsi)
+    scfsi_of slot = get_or scfsi slot idle_scfsi
 
     abbrev three_in : List ℕ → ℕ → Three
     three_in cells slot = three (get_or cells (3 * slot) 0) (get_or cells (3 * slot + 1) 0) (get_or cells (3 * slot + 2) 0)
@@ -129,7 +129,7 @@ module _ (l : Layout) (bits behind_fields behind_scfsi rest : List Bool) (steps 
       scalefactors_long = c.long ∙ length-replicate {A = ℕ} 192 0;
       agrees = λ slot e. each_one (λ k. _) active slot (each_map _ _ (λ slot g. g.kept.agrees) active c.found) e;
       idle = λ slot e. (
-        ap (λ (t : Scfsi). t.scfsi) (s.elsewhere slot (ap (λ (ks : List ℕ). one_of ks slot) (alone active) ∙ e) ∙ blank 64 idle_scfsi slot),
+        s.elsewhere slot (ap (λ (ks : List ℕ). one_of ks slot) (alone active) ∙ e) ∙ blank 64 idle_scfsi slot,
         λ i. three (no_index slot e (3 * slot) (omega arith) i) (no_index slot e (3 * slot + 1) (omega arith) i) (no_index slot e (3 * slot + 2) (omega arith) i),
       );
       outside = λ slot e. f.elsewhere slot (ap (λ (ks : List ℕ). one_of ks slot) (slots_of_fields l) ∙ e) ∙ blank 64 0 slot;

@@ -109,7 +109,7 @@ module _ (steps : List ℕ) (x : AllocationField) where
 -- ---- a scfsi
 
 abbrev pub scfsi_wire : Scfsi → List Bool
-scfsi_wire s = bits_of 2 (code_of s.scfsi)
+scfsi_wire s = bits_of 2 (code_of s)
 
 code_small : (s : Scfsi) → code_of s < 2 ^ 2
 code_small ThreePerGranule = lit< tt
@@ -129,8 +129,8 @@ as_slot code = got (of_code code)
 
 pub scfsi_sent : (slot : ℕ) (s : Scfsi) (rest : List Bool) → scfsi_taken slot (scfsi_wire s ++ rest) ≡ got s rest
 scfsi_sent slot s rest =
-    then_got as_slot (number_taken 2 (bits_of 2 (code_of s.scfsi) ++ rest)) (code_of s.scfsi) rest (number_sent 2 (code_of s.scfsi) rest (code_small s.scfsi))
-    ∙ ap (λ (t : Scfsi). got (t) rest) (of_code_lem s.scfsi)
+    then_got as_slot (number_taken 2 (bits_of 2 (code_of s) ++ rest)) (code_of s) rest (number_sent 2 (code_of s) rest (code_small s))
+    ∙ ap (λ (t : Scfsi). got t rest) (of_code_lem s)
 
 pub scfsi_took : (slot : ℕ) (bits : List Bool) (s : Scfsi) (rest : List Bool) → scfsi_taken slot bits ≡ got s rest → bits ≡ scfsi_wire s ++ rest
 scfsi_took slot bits s rest e =
@@ -138,7 +138,7 @@ scfsi_took slot bits s rest e =
     let t = number_taken_lem 2 bits b.value b.rest b.first in
     t.front
     ∙ ap₂ (λ (n : ℕ) (bs : List Bool). bits_of 2 n ++ bs)
-    (sym (code_back b.value t.small) ∙ ap (λ (u : Scfsi). code_of u.scfsi) (same_value b.second)) (same_rest b.second)
+    (sym (code_back b.value t.small) ∙ ap code_of (same_value b.second)) (same_rest b.second)
 
 -- ---- scalefactors
 

@@ -18,7 +18,7 @@ use Rattle.side_info_reading.proofs.ReadLaws.{rest_decides, zero_asked}
 pub read_passes : (h : FrameHeader) (bytes : List ℕ) (r : ReadAnswer) → ReadPasses h bytes r
 read_passes h bytes r = record {
   passes = λ is zero c check.
-      let s = record_in r in
+      let s = r.info in
       let l = header_layout h in
       let asked = zero_asked h s (ap (λ (w : WrittenAnswer). w.number) (is.again zero)) in
       let header = both_zero (header_asked h) (record_asked l s) asked in

@@ -81,7 +81,7 @@ taken_refusing l bits =
     (active_slots l steps) nothing.scfsi rest)
     (λ scfsi rest. then_refusing (scalefactors_taken scfsi (active_slots l steps) rest) (λ scalefactors. got (side_info steps scfsi scalefactors))
     (each_refusing (λ slot. three_taken (get_or scfsi slot idle_scfsi)) in_granules
-    (λ x bits. let s = (get_or scfsi x idle_scfsi) in then_refusing (indices_taken (parts_of s) bits) (λ is. got (restored s is)) (indices_refusing (parts_of s) bits) (λ p rest. tt))
+    (λ x bits. let s = get_or scfsi x idle_scfsi in then_refusing (indices_taken (parts_of s) bits) (λ is. got (restored s is)) (indices_refusing (parts_of s) bits) (λ p rest. tt))
     (active_slots l steps) nothing.scalefactors rest)
     (λ scalefactors rest. tt)))
 

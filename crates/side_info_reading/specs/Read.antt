@@ -9,7 +9,7 @@ use Rattle.audio_data.specs.declared.Scfsi.TheVariants.{ThreePerGranule}
 use Rattle.audio_data.specs.Scfsi.{three}
 use Rattle.bit_string.specs.Bits.{unpacked}
 use Rattle.side_info.specs.declared.SideInfo.{SideInfo}
-use Rattle.side_info.specs.SideInfo.{side_info, scfsi_in, scalefactors_in, header_layout, active_slots}
+use Rattle.side_info.specs.SideInfo.{scfsi_in, scalefactors_in, header_layout, active_slots}
 use Rattle.record_check.specs.Together.{StepsCarried, IndicesShared}
 use Rattle.side_info_writer.specs.Written.{written, written_of}
 use Rattle.side_info_reading.specs.Taken.{Taken, got, refused}

@@ -10,17 +10,17 @@ returns-then-empty c = none_empty _ _ _ _ c.requires.channel c.requires.subband 
 pub returns-else-empty : goal.returns-else-empty
 returns-else-empty c = none_active _ _ _ _ c.requires.channel c.requires.subband (sym c.in_default.is ∙ c.field_serving.ensures.whole) c.if-empty.false
 
-pub returns-then-field-equal : goal.returns-then-field-equal
-returns-then-field-equal c =
-    by_field _ _ _ _ c.requires.channel c.requires.subband _ _ (sym c.in-Some.is ∙ c.field_serving.ensures.whole) c.field-field.ensures.whole _ true _ refl
-    c.if-field-equal.true refl
+pub returns-then-differ : goal.returns-then-differ
+returns-then-differ c =
+    by_field _ _ _ _ c.requires.channel c.requires.subband _ _ (sym c.in-Some.is ∙ c.field_serving.ensures.whole) c.field-field.ensures.whole _ true _
+    c.agreeing.ensures c.if-differ.true refl
 
-pub returns-then-not-empty-agreeing : goal.returns-then-not-empty-agreeing
-returns-then-not-empty-agreeing c =
+pub returns-then-not-free : goal.returns-then-not-free
+returns-then-not-free c =
     by_field _ _ _ _ c.requires.channel c.requires.subband _ _ (sym c.in-Some.is ∙ c.field_serving.ensures.whole) c.field-field.ensures.whole _ false false
-    c.agreeing.ensures c.if-field-equal.false c.if-not-empty-agreeing.true
+    c.agreeing.ensures c.if-differ.false c.if-not-free.true
 
 pub returns : goal.returns
 returns c =
     by_field _ _ _ _ c.requires.channel c.requires.subband _ _ (sym c.in-Some.is ∙ c.field_serving.ensures.whole) c.field-field.ensures.whole _ false true
-    c.agreeing.ensures c.if-field-equal.false c.if-not-empty-agreeing.false
+    c.agreeing.ensures c.if-differ.false c.if-not-free.false
