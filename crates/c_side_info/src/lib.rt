@@ -11,12 +11,14 @@ ghost use Rattle.c_side_info.specs.Replies.{bytes_written, bits_written, bytes_c
 
 use c_answers::arguments::HeaderNumbers;
 use c_answers::refusal::Refusal;
+use c_answers::writing;
+use record_checker::RecordError;
 
 mod record;
 mod replies;
 
 pub use record::RecordSlices;
-use replies::{put_checked, put_written};
+use replies::put_written;
 
 // The side information as bytes, and how many of their bits are used.
 pub fn write_side_info(
@@ -42,6 +44,7 @@ pub fn write_side_info(
 }
 
 // The same in its one form: each active slot with the scfsi that sends the fewest indices.
+// Kept: C has a name for each writer; a shared body would take the writer as a closure, and the two clauses would be drawn from its `F.post` at both calls.
 pub fn write_side_info_canonical(
     given: HeaderNumbers,
     record: RecordSlices,
@@ -77,6 +80,17 @@ pub fn check_record(
         out.old (number_in result) out.new }
 {
     let frame = record.frame(given, out.len() < 2)?;
-    let checked = record_checker::check_record(frame.header, &frame.side);
-    Ok(put_checked(checked, out))
+    let (number, place) = match record_checker::check_record(frame.header, &frame.side) {
+        Ok(()) => (0, [0, 0]),
+        Err(RecordError::Header(error)) => (error.number(), [0, 0]),
+        Err(
+            RecordError::Slot {
+                error,
+                subband,
+                channel,
+            },
+        ) => (error.number(), [subband, channel]),
+    };
+    writing::put(&place, out);
+    Ok(number)
 }

@@ -1,16 +1,15 @@
-// How the answers of the writers and of the checker are written into the slices of a call. A result without bytes or without a place is written with zeros.
+// How the answer of either writer is written into the slices of a call.
 ghost use Rattle.std.specs.Prelude.{◌≡◌, ℕ, ◌≤◌, length};
 ghost use Rattle.c_answers.specs.Answers.{Answers};
-ghost use Rattle.record_checker.specs.Errors.{check_in};
 ghost use Rattle.c_side_info.specs.Parts.{written_by};
-ghost use Rattle.c_side_info.specs.Replies.{bytes_in, bits_in, place_in};
+ghost use Rattle.c_side_info.specs.Replies.{bytes_in, bits_in};
 
 use c_answers::writing;
 use canonical_writer::CanonicalError;
-use record_checker::RecordError;
 use side_info_writer::{SIDE_INFO_BYTES, WriteError, WrittenSideInfo};
 
 // Why a writer refuses a record.
+// Kept: C is answered by a number, whichever writer's error it is of.
 pub trait Numbered {
     ghost number_of: { Self → ℕ };
 
@@ -39,7 +38,7 @@ impl Numbered for CanonicalError {
     }
 }
 
-// A writer's answer into its slices.
+// A writer's answer into its slices; beside a refusal 174 zeros and no bits.
 #[tactic(auto, unfolding(bit_string::specs::Bits::packed))]
 pub fn put_written<E: Numbered>(
     written: Result<WrittenSideInfo, E>,
@@ -62,24 +61,4 @@ pub fn put_written<E: Numbered>(
             error.number()
         }
     }
-}
-
-// A checker's answer into its slice.
-pub fn put_checked(checked: Result<(), RecordError>, out: &mut [u32]) -> u32
-    requires { 2 ≤ length out.old }
-    ensures { Answers (place_in (check_in checked)) out.old result out.new }
-{
-    let (number, place) = match checked {
-        Ok(()) => (0, [0, 0]),
-        Err(RecordError::Header(error)) => (error.number(), [0, 0]),
-        Err(
-            RecordError::Slot {
-                error,
-                subband,
-                channel,
-            },
-        ) => (error.number(), [subband, channel]),
-    };
-    writing::put(&place, out);
-    number
 }

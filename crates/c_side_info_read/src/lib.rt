@@ -3,21 +3,21 @@
 // then what the numbers mean (14), then what the function itself asks.
 #![tactic(auto)]
 
-ghost use Rattle.std.specs.Prelude.{◌≡◌, ◌≤◌, length};
+ghost use Rattle.std.specs.Prelude.{◌≡◌, length};
 ghost use Rattle.c_answers.specs.Answers.{answered, Answers};
 ghost use Rattle.c_answers.specs.Refusals.{number_in};
-ghost use Rattle.c_side_info_read.specs.Replies.{header_asked, codes_of, steps_in, scfsi_in, indices_in, bits_in, steps_read, scfsi_read, indices_read, bits_read};
+ghost use Rattle.c_side_info_read.specs.Replies.{header_asked, codes_of, steps_read, scfsi_read, indices_read, bits_read};
 ghost use Rattle.side_info_reading.specs.Reading.{nothing};
-ghost use Rattle.side_info_reader.specs.Errors.{read_in};
 
 use audio_data::Scfsi;
 use c_answers::arguments::HeaderNumbers;
 use c_answers::refusal::Refusal;
 use c_answers::writing;
 use side_info::SideInfo;
-use side_info_reader::{ReadError, ReadSideInfo};
+use side_info_reader::ReadSideInfo;
 
 // The record that stands at the front of the bytes, and how many of their bits are used.
+// Kept: C hands over each slice of the record by itself, and each has its own clause.
 pub fn read_side_info(
     given: HeaderNumbers,
     bytes: &[u8],
@@ -49,8 +49,15 @@ pub fn read_side_info(
 {
     let short = (steps.len() < 64) | ((scfsi.len() < 64) | ((index.len() < 192) | (out.len() < 1)));
     let header = given.header(short)?;
-    let read = side_info_reader::read_side_info(header, bytes);
-    Ok(put_read(read, steps, scfsi, index, out))
+    let (number, read) = match side_info_reader::read_side_info(header, bytes) {
+        Ok(read) => (0, read),
+        Err(error) => (error.number(), nothing()),
+    };
+    writing::put(&read.info.steps, steps);
+    writing::put(&codes_of(read.info.scfsi), scfsi);
+    writing::put(&read.info.scalefactors, index);
+    out[0] = read.bits_used;
+    Ok(number)
 }
 
 // The codes of scfsi.
@@ -73,29 +80,4 @@ fn nothing() -> ReadSideInfo
         },
         bits_used: 0,
     }
-}
-
-// A reader's answer into its slices.
-fn put_read(
-    read: Result<ReadSideInfo, ReadError>,
-    steps: &mut [u32],
-    scfsi: &mut [u8],
-    index: &mut [u8],
-    out: &mut [u32],
-) -> u32
-    requires { (64 ≤ length steps.old) × (64 ≤ length scfsi.old) × (192 ≤ length index.old) × (1 ≤ length out.old) }
-    ensures steps_written { Answers (steps_in (read_in read)) steps.old result steps.new }
-    ensures scfsi_written { Answers (scfsi_in (read_in read)) scfsi.old result scfsi.new }
-    ensures index_written { Answers (indices_in (read_in read)) index.old result index.new }
-    ensures out_written { Answers (bits_in (read_in read)) out.old result out.new }
-{
-    let (number, read) = match read {
-        Ok(read) => (0, read),
-        Err(error) => (error.number(), nothing()),
-    };
-    writing::put(&read.info.steps, steps);
-    writing::put(&codes_of(read.info.scfsi), scfsi);
-    writing::put(&read.info.scalefactors, index);
-    out[0] = read.bits_used;
-    number
 }

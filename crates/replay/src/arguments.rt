@@ -3,14 +3,10 @@ use audio_data::Scfsi;
 use header::{FrameHeader, Mode, ModeExtension};
 use side_info::SideInfo;
 use std::array;
-use std::num::f64_from_bits_with_nan;
-
-// The double of a bit pattern; NaN for each of NaN's patterns. Std's own name, handed to `map`, is not proved.
-pub fn double(bits: u64) -> f64 {
-    f64_from_bits_with_nan(bits)
-}
+use std::num::f64_from_bits_with_nan as double;
 
 // Of 0 or 1.
+// Kept: std makes a number of a bool, and no bool of a number.
 pub fn flag(n: u64) -> Option<bool> {
     match n {
         0 => Some(false),
@@ -49,7 +45,11 @@ pub fn header_of(numbers: &[u64]) -> Option<(FrameHeader, &[u64])> {
 pub fn ratios_of(numbers: &[u64]) -> Option<([[f64; 32]; 2], &[u64])> {
     let (first, rest) = numbers.split_first_chunk::<32>()?;
     let (second, rest) = rest.split_first_chunk::<32>()?;
-    Some(([first.map(double), second.map(double)], rest))
+    let ratios = [
+        first.map(|bits| double(bits)),
+        second.map(|bits| double(bits)),
+    ];
+    Some((ratios, rest))
 }
 
 // A record, 64 numbers of steps, 2 numbers of 32 scfsi codes each and 24 numbers of 8 indices each, and the numbers behind it.
@@ -60,7 +60,7 @@ pub fn record_of(numbers: &[u64]) -> Option<(SideInfo, &[u64])> {
     let (indices, rest) = rest.split_first_chunk::<24>()?;
     let info = SideInfo {
         steps: steps_of(steps)?,
-        scfsi: scfsi_of(*codes),
+        scfsi: unpacked_codes(*codes),
         scalefactors: bytes_of(indices),
     };
     Some((info, rest))
@@ -74,7 +74,7 @@ fn steps_of(numbers: &[u64; 64]) -> Option<[u32; 64]> {
     Some(steps)
 }
 
-fn scfsi_of(codes: [u64; 2]) -> [Scfsi; 64] {
+fn unpacked_codes(codes: [u64; 2]) -> [Scfsi; 64] {
     array::from_fn(|slot| Scfsi::of_code((codes[slot / 32] >> (2 * (slot % 32)) & 3) as u8))
 }
 

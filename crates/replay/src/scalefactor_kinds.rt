@@ -1,9 +1,10 @@
 // Kinds of scalefactor indices and of their selection.
 use crate::answers::verdict_of;
-use crate::arguments::{double, flag};
+use crate::arguments::flag;
 use audio_data::Scfsi;
 use encoder_scfsi::TransmissionPattern;
 use replay_answers::{Verdict, verdict_on};
+use std::num::f64_from_bits_with_nan as double;
 
 // Magnitude -> index.
 pub fn pick_scalefactor_index(numbers: &[u64]) -> Option<Verdict> {
@@ -15,7 +16,8 @@ pub fn pick_scalefactor_index(numbers: &[u64]) -> Option<Verdict> {
 // Twelve samples -> index.
 pub fn extract_scalefactor_index(numbers: &[u64]) -> Option<Verdict> {
     let (samples, expected) = numbers.split_first_chunk::<12>()?;
-    let index = encoder_scalefactors::extract_scalefactor_index(&samples.map(double));
+    let samples = samples.map(|bits| double(bits));
+    let index = encoder_scalefactors::extract_scalefactor_index(&samples);
     verdict_on(expected, &[u64::from(index)])
 }
 

@@ -6,7 +6,6 @@ use header::FrameHeader;
 use record_checker::RecordError;
 use replay_answers::{Verdict, verdict_on};
 use side_info::SideInfo;
-use side_info_reader::ReadSideInfo;
 use side_info_writer::WrittenSideInfo;
 
 // H, a record as `record_of` reads it -> number, bits used, 22 numbers of 8 bytes each, packed as there. Written with the scfsi given.
@@ -42,7 +41,8 @@ fn written_verdict<F: FnOnce(FrameHeader, SideInfo) -> Result<WrittenSideInfo, u
     Some(verdict.and(verdict_on(bytes, &packed_bytes)?))
 }
 
-// H, the length of a slice, 22 numbers of 8 of its bytes each, 0 behind its end -> number, bits used, a record as `record_of` reads it.
+// H, the length of a slice, 22 numbers of 8 of its bytes each, 0 behind its end -> number, bits used, a record as `record_of` reads it. Beside a refusal
+// every other number is 0.
 pub fn read_side_info(numbers: &[u64]) -> Option<Verdict> {
     let (header, rest) = header_of(numbers)?;
     let (length, rest) = rest.split_first()?;
@@ -50,34 +50,23 @@ pub fn read_side_info(numbers: &[u64]) -> Option<Verdict> {
     let bytes: [u8; 176] = bytes_of(given);
     let slice = bytes.get(..usize::try_from(*length).ok()?)?;
     let (first, record) = expected.split_at_checked(2)?;
-    let (number, read) = match side_info_reader::read_side_info(header, slice) {
-        Ok(read) => (0, read),
-        Err(error) => (error.number(), nothing_read()),
+    let (answers, numbers) = match side_info_reader::read_side_info(header, slice) {
+        Ok(read) => ([0, read.bits_used], record_numbers(&read.info)),
+        Err(error) => ([error.number(), 0], [0; 90]),
     };
-    let answers = [number, read.bits_used];
     let verdict = verdict_on(first, &answers.map(u64::from))?;
-    Some(verdict.and(record_verdict(record, &read.info)?))
+    Some(verdict.and(verdict_on(record, &numbers)?))
 }
 
-// What stands beside a refusal.
-fn nothing_read() -> ReadSideInfo {
-    ReadSideInfo {
-        info: SideInfo {
-            steps: [0; 64],
-            scfsi: [Scfsi::ThreePerGranule; 64],
-            scalefactors: [0; 192],
-        },
-        bits_used: 0,
-    }
-}
-
-// The verdict on a record.
-fn record_verdict(expected: &[u64], info: &SideInfo) -> Option<Verdict> {
-    let (steps, rest) = expected.split_at_checked(64)?;
-    let (codes, indices) = rest.split_at_checked(2)?;
-    let verdict = verdict_on(steps, &info.steps.map(u64::from))?;
-    let verdict = verdict.and(verdict_on(codes, &packed_codes(&info.scfsi))?);
-    Some(verdict.and(verdict_on(indices, &packed::<24>(&info.scalefactors))?))
+// A record as `record_of` reads it.
+fn record_numbers(info: &SideInfo) -> [u64; 90] {
+    let mut numbers = [0; 90];
+    let (steps, rest) = numbers.split_at_mut(64);
+    let (codes, indices) = rest.split_at_mut(2);
+    steps.copy_from_slice(&info.steps.map(u64::from));
+    codes.copy_from_slice(&packed_codes(&info.scfsi));
+    indices.copy_from_slice(&packed::<24>(&info.scalefactors));
+    numbers
 }
 
 // The codes of scfsi, 32 to a number.

@@ -83,10 +83,8 @@ pub fn bitrate_per_channel_kbps(numbers: &[u64]) -> Option<Verdict> {
 // H -> found table.
 pub fn select_table(numbers: &[u64]) -> Option<Verdict> {
     let (header, expected) = header_of(numbers)?;
-    match table_selection::select_table(header) {
-        Some(table) => pair_verdict(expected, 1, u64::from(table.number())),
-        None => pair_verdict(expected, 0, 0),
-    }
+    let selected = table_selection::select_table(header);
+    found_verdict(expected, selected.map(|table| table.number()))
 }
 
 // Steps -> found C D grouping samples_per_codeword bits_per_codeword.
