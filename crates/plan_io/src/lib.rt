@@ -19,8 +19,7 @@ impl Answer for Planner {
     ghost page = { plan_of };
 
     fn line(&self, words: &[u8], input: &[u8], n: usize) -> Option<Line> {
-        let plan = planner::plan_line(words, input, n);
-        if plan.there { Some(plan.line) } else { None }
+        planner::plan_line(words, input, n)
     }
 }
 

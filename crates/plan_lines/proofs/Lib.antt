@@ -1,3 +1,4 @@
 pub mod Lengths
 pub mod Examples
 pub mod BudgetLaws
+pub mod ToldLaws

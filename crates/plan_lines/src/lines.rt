@@ -28,6 +28,7 @@ pub fn free_line(b: FixedBitBudget) -> Line
     limits(line, b.sblimit, b.bound)
 }
 
+// Kept: one text for each table; a `Display` would be the same match, and a line takes bytes.
 fn table_name(table: BitAllocTable) -> &'static [u8]
     ensures { result.now ≡ table_text table }
 {

@@ -4,4 +4,4 @@
 mod page;
 mod rows;
 
-pub use page::{page_length, page_line};
+pub use page::page_line;

@@ -1,29 +1,19 @@
 // The page, line by line.
-ghost use Rattle.std.specs.Prelude.{◌≡◌, [], ◌-◌, ◌≤◌, length, get_or};
+ghost use Rattle.std.specs.Prelude.{◌≡◌, ◌≤◌};
 ghost use Rattle.encoder_bit_budget.specs.Budget.{offered_in, natural};
 ghost use Rattle.encoder_bit_demand.specs.Demand.{demand_of};
-ghost use Rattle.text_line.specs.Line.{text_of};
+ghost use Rattle.text_line.specs.Page.{LineAt};
 ghost use Rattle.plan_page.specs.Page.{head_of, foot_of, accepted_page, page_of};
 
 use crate::rows;
 use encoder_bit_budget::{FixedBitBudget, Request};
 use header::FrameHeader;
-use plan_lines::{Label, Refusal};
+use plan_lines::Label;
 use text_line::Line;
 
-// How many lines the page has.
-pub fn page_length(header: FrameHeader, banc: u32, smr_db: [[f64; 32]; 2]) -> usize
-    ensures { result ≡ length (page_of header banc smr_db) }
-{
-    match encoder_bit_allocator::allocate_bits(header, smr_db, banc) {
-        Ok(_) => 9 + plan_lines::budget_held(Request { header, banc }).sblimit,
-        Err(_) => 1,
-    }
-}
-
-// The line of a number, counted from 0; an empty one behind the last.
-pub fn page_line(header: FrameHeader, banc: u32, smr_db: [[f64; 32]; 2], n: usize) -> Line
-    ensures { text_of result ≡ get_or (page_of header banc smr_db) n [] }
+// The line of a number, counted from 0.
+pub fn page_line(header: FrameHeader, banc: u32, smr_db: [[f64; 32]; 2], n: usize) -> Option<Line>
+    ensures { LineAt (page_of header banc smr_db) n result }
 {
     match encoder_bit_allocator::allocate_bits(header, smr_db, banc) {
         Ok(allocation) => {
@@ -40,13 +30,7 @@ pub fn page_line(header: FrameHeader, banc: u32, smr_db: [[f64; 32]; 2], n: usiz
             };
             accepted.line(n)
         }
-        Err(error) => {
-            if n == 0 {
-                plan_lines::refusal_line(header, Refusal::from(error))
-            } else {
-                Line::new()
-            }
-        }
+        Err(error) => text_line::only(plan_lines::refusal_line(header, error), n),
     }
 }
 
@@ -54,13 +38,11 @@ pub fn page_line(header: FrameHeader, banc: u32, smr_db: [[f64; 32]; 2], n: usiz
 fn demanded_bits(header: FrameHeader, smr_db: [[f64; 32]; 2]) -> u64
     ensures { result ≡ (demand_of header smr_db).bits }
 {
-    match encoder_bit_demand::demand_bits(header, smr_db) {
-        Ok(bits) => bits,
-        Err(_) => 0,
-    }
+    encoder_bit_demand::demand_bits(header, smr_db).unwrap_or(0)
 }
 
 // What the page of an accepted request shows.
+// Kept: the steps are by slot and the ratios by channel and subband, as the allocation has them; no loop reads both, and `left` is bits, no length.
 #[derive(Clone, Copy)]
 struct Accepted {
     budget: FixedBitBudget,
@@ -74,41 +56,48 @@ struct Accepted {
 
 impl Accepted {
     // A line of the page.
-    fn line(&self, n: usize) -> Line
-        ensures { text_of result ≡ get_or (accepted_page self.now.budget self.now.offered self.now.demand self.now.steps self.now.left self.now.smr_db) n [] }
+    fn line(&self, n: usize) -> Option<Line>
+        ensures { LineAt (accepted_page self.now.budget self.now.offered self.now.demand self.now.steps self.now.left self.now.smr_db) n result }
     {
         let sblimit = self.budget.sblimit;
         if n < 6 {
             self.head_line(n)
         } else if n - 6 < sblimit {
-            rows::subband_line(self.budget.layout(), self.steps, self.smr_db, n - 6)
+            let layout = self.budget.layout();
+            Some(rows::subband_line(layout, self.steps, self.smr_db, n - 6))
         } else {
             self.foot_line(n - 6 - sblimit)
         }
     }
 
     // A line above the rows.
-    fn head_line(&self, n: usize) -> Line
-        ensures { text_of result ≡ get_or (head_of self.now.budget self.now.offered self.now.demand) n [] }
+    // Kept: each place's line is made where it is asked for; an array of the six would make all of them for each line of the page.
+    fn head_line(&self, n: usize) -> Option<Line>
+        ensures { LineAt (head_of self.now.budget self.now.offered self.now.demand) n result }
     {
         match n {
-            0 => plan_lines::frame_line(self.budget),
-            1 => plan_lines::bits_line(Label::Fixed, self.budget.fixed()),
-            2 => plan_lines::bits_line(Label::Offered, self.offered),
-            3 => plan_lines::demand_line(self.demand, self.offered),
-            5 => rows::heading(self.budget.layout()),
-            _ => Line::new(),
+            0 => Some(plan_lines::frame_line(self.budget)),
+            1 => Some(plan_lines::bits_line(Label::Fixed, self.budget.fixed())),
+            2 => Some(plan_lines::bits_line(Label::Offered, self.offered)),
+            3 => Some(plan_lines::demand_line(self.demand, self.offered)),
+            4 => Some(Line::new()),
+            5 => Some(rows::heading(self.budget.layout())),
+            _ => None,
         }
     }
 
     // A line below them.
-    fn foot_line(&self, n: usize) -> Line
-        ensures { text_of result ≡ get_or (foot_of self.now.offered self.now.left) n [] }
+    fn foot_line(&self, n: usize) -> Option<Line>
+        ensures { LineAt (foot_of self.now.offered self.now.left) n result }
     {
         match n {
-            1 => plan_lines::bits_line(Label::Charged, self.offered.saturating_sub(self.left)),
-            2 => plan_lines::bits_line(Label::Left, self.left),
-            _ => Line::new(),
+            0 => Some(Line::new()),
+            1 => {
+                let charged = self.offered.saturating_sub(self.left);
+                Some(plan_lines::bits_line(Label::Charged, charged))
+            }
+            2 => Some(plan_lines::bits_line(Label::Left, self.left)),
+            _ => None,
         }
     }
 }

@@ -4,3 +4,4 @@ pub mod TokenLaws
 pub mod AnswerLaws
 pub mod WalkLaws
 pub mod Examples
+pub mod LineLaws

@@ -195,16 +195,13 @@ fn steps_to_end(text: &[u8], from: usize) -> Option<usize>
     text.iter().skip(from).position(|b| is_end(*b))
 }
 
-// How many lines a text has.
+// How many lines a text has: one for each line feed, and one that is ended by the text's end.
 fn count_lines(text: &[u8]) -> u64
     ensures { result ≡ length (pieces ends_line text.now) }
 {
-    let mut lines: u64 = 0;
-    let mut at = 0;
-    while at < text.len() {
-        let end = plan_text::find_byte(text, at, b'\n');
-        at = plan_text::past(end, text.len());
-        lines += 1;
+    let feeds = text.iter().filter(|b| **b == b'\n').count() as u64;
+    match text.last() {
+        Some(last) => feeds + u64::from(*last != b'\n'),
+        None => 0,
     }
-    lines
 }

@@ -4,12 +4,11 @@ use mathlib.Core.Bool.{Bool, true, false, cond, not, ◌&&◌}
 use mathlib.Core.List.{List, [], ◌∷◌}
 use Prim.Native.Nat.{ℕ, suc, ◌+◌, ◌-◌, ◌≤◌, ◌<◌, min, suc-le-suc}
 use native.Mathlib.Nat.{not-suc-le-zero, zero-lt-suc}
-use native.Mathlib.Numerals.{add-one}
 use native.Mathlib.Omega.{arith}
 use lib.Dec.{T, eqb, ltb}
-use lib.ListN.{length, take, drop, get_or, drop_of_length-le, length-drop}
-use lib.Seq.{drop-cons, drop-drop, take_all}
-use borrow.Author.Tests.{eqb-true, eq-eqb, ltb-true, ltb-false}
+use lib.ListN.{length, take, drop, drop_of_length-le, length-drop}
+use lib.Seq.{drop-drop, take_all}
+use borrow.Author.Tests.{ltb-true, ltb-false}
 use Rattle.std.specs.Prelude.{bytes_eq, Some, None, position}
 use Rattle.std.specs.List.{position_or_len}
 use Rattle.std.proofs.lemmas.Option.{none-some, cond_some}
@@ -17,21 +16,9 @@ use Rattle.plan_text.specs.Bytes.{same, reach, before, behind, onto, pieces}
 
 -- ---- equal texts
 
-pub same_refl : (xs : List ℕ) → same xs xs ≡ true
-same_refl [] = refl
-same_refl (x ∷ xs) = rw (eq-eqb x x refl, same_refl xs)
-
 pub both : (a b : Bool) → a && b ≡ true → (a ≡ true) × (b ≡ true)
 both true b e = (refl, e)
 both false b e = absurd (subst T (sym e) tt)
-
-pub same_equal : (xs ys : List ℕ) → same xs ys ≡ true → xs ≡ ys
-same_equal [] [] e = refl
-same_equal [] (y ∷ ys) e = absurd (subst T (sym e) tt)
-same_equal (x ∷ xs) [] e = absurd (subst T (sym e) tt)
-same_equal (x ∷ xs) (y ∷ ys) e =
-    let p = both (eqb x y) (same xs ys) e in
-    rw (eqb-true x y p.0, same_equal xs ys p.1)
 
 -- the library's words for it
 pub same_is : (xs ys : List ℕ) → same xs ys ≡ bytes_eq xs ys
@@ -39,15 +26,6 @@ same_is [] [] = refl
 same_is [] (y ∷ ys) = refl
 same_is (x ∷ xs) [] = refl
 same_is (x ∷ xs) (y ∷ ys) = ap (λ (b : Bool). eqb x y && b) (same_is xs ys)
-
--- a test that passes at equal texts and at no others
-pub decides : (r : Bool) (xs ys : List ℕ) → (r ≡ true → xs ≡ ys) → (xs ≡ ys → r ≡ true) → r ≡ same xs ys
-decides true xs ys f g = sym (rw (f refl) (same_refl ys))
-decides false xs ys f g = go (same xs ys) refl
-  where
-    go : (b : Bool) → same xs ys ≡ b → false ≡ b
-    go true e = g (same_equal xs ys e)
-    go false e = refl
 
 -- ---- the first byte that passes
 
@@ -80,16 +58,6 @@ module _ (p : ℕ → Bool) where
       go : (t : Bool) → ltb (position_or_len p bs) (length bs) ≡ t → None ≡ cond t (Some (position_or_len p bs)) None → reach p bs ≡ length bs
       go true f e = absurd (none-some _ e)
       go false f e = let l = ltb-false (position_or_len p bs) (length bs) f in omega (arith, reach_most bs, reach_is bs)
-
-  module _ (text : List ℕ) (i : ℕ) where
-    pub reach_at : i < length text → p (get_or text i 0) ≡ true → reach p (drop i text) ≡ 0
-    reach_at h e = rw (drop-cons text i 0 h, e)
-
-    pub reach_past : i < length text → p (get_or text i 0) ≡ false → i + reach p (drop i text) ≡ i + 1 + reach p (drop (i + 1) text)
-    reach_past h e = rw (add-one i, drop-cons text i 0 h, e) (omega arith)
-
-    pub reach_end : length text ≤ i → reach p (drop i text) ≡ 0
-    reach_end h = rw (drop_of_length-le text h)
 
   -- what is found in a text is not past its end
   pub found_most : (text : List ℕ) (i r : ℕ) → i ≤ length text → r ≡ i + reach p (drop i text) → r ≤ length text

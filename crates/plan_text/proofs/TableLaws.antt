@@ -1,7 +1,6 @@
 -- A table of words, as the library searches it.
 use Rattle.std.proofs.Common.{◌≡◌, ℕ, Bool, true, false, cond, List, [], ◌∷◌, Bor, refl, ap, ◌∙◌}
 use Rattle.std.specs.Prelude.{Option, None, Some, option_map, find, bytes_eq}
-use Rattle.plan_text.specs.Bytes.{same}
 use Rattle.plan_text.specs.Table.{looked_up}
 use Rattle.plan_text.proofs.ByteLaws.{same_is}
 

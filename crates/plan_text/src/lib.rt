@@ -1,17 +1,10 @@
-// Reading texts of bytes: comparing, finding a byte, and numbers in decimal digits.
+// Reading texts of bytes: looking up a word, finding a byte, and numbers in decimal digits.
 #![tactic(auto)]
 
 ghost use Rattle.std.specs.Prelude.{◌≡◌, ◌+◌, ◌==◌, min, drop, eqb, position};
-ghost use Rattle.plan_text.specs.Bytes.{same, reach};
+ghost use Rattle.plan_text.specs.Bytes.{reach};
 ghost use Rattle.plan_text.specs.Digits.{number_to};
 ghost use Rattle.plan_text.specs.Table.{looked_up};
-
-// Whether two texts are the same.
-pub fn same(a: &[u8], b: &[u8]) -> bool
-    ensures { result ≡ same a.now b.now }
-{
-    a == b
-}
 
 // What stands beside the first entry of a table with a word.
 pub fn look_up<T: Copy>(table: &[(&[u8], T)], word: &[u8]) -> Option<T>

@@ -1,13 +1,11 @@
 -- Laws of the answer: which page it is.
-use mathlib.Core.Path.{◌≡◌, sym, ap, ◌∙◌}
-use mathlib.Core.Bool.{Bool, true, false}
+use mathlib.Core.Path.{◌≡◌, ap, ◌∙◌}
 use mathlib.Core.List.{List, [], ◌∷◌}
 use Prim.Native.Nat.{ℕ, ◌≤◌, ◌<◌}
 use lib.Ieee.{Float}
 use lib.ListN.{length}
 use borrow.Author.Tests.{le-leb, lt-leb}
 use Rattle.std.specs.Prelude.{Result, Ok, Err}
-use Rattle.header.specs.declared.FrameHeader.{FrameHeader}
 use Rattle.layout.specs.Slots.{smr_rows}
 use Rattle.plan_words.specs.declared.Words.{Words}
 use Rattle.plan_words.specs.declared.WordsError.{WordsError}

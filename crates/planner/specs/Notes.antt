@@ -1,5 +1,5 @@
 -- The line that stands alone where the ratios cannot be read.
-use Rattle.std.specs.Prelude.{ℕ, List, [], ◌++◌}
+use Rattle.std.specs.Prelude.{ℕ, List, ◌++◌}
 use Rattle.plan_ratios.specs.declared.RatiosError.{RatiosError}
 use Rattle.plan_ratios.specs.declared.RatiosError.TheVariants.{NotARatio, TooMany, TooFew}
 use Rattle.plan_text.specs.Quoted.{text}

@@ -4,18 +4,17 @@
 mod notes;
 
 ghost use Rattle.std.specs.Prelude.{◌≡◌};
-ghost use Rattle.plan_page.specs.Page.{page_of};
-ghost use Rattle.text_line.specs.Page.{LineIs};
+ghost use Rattle.text_line.specs.Page.{LineAt};
 ghost use Rattle.planner.specs.Planner.{slots_for, with_words, plan_of};
 
 use header::FrameHeader;
 use layout::slots;
 use plan_words::Words;
-use text_line::{PageLine, only};
+use text_line::{Line, only};
 
 // The line of a number, counted from 0. The words are each ended by a byte 0.
-pub fn plan_line(words: &[u8], input: &[u8], n: usize) -> PageLine
-    ensures { LineIs (plan_of words.now input.now) n result }
+pub fn plan_line(words: &[u8], input: &[u8], n: usize) -> Option<Line>
+    ensures { LineAt (plan_of words.now input.now) n result }
 {
     if 4096 <= words.len() {
         return only(word_notes::long_words(), n);
@@ -30,24 +29,15 @@ pub fn plan_line(words: &[u8], input: &[u8], n: usize) -> PageLine
 }
 
 // With words: the page of the ratios, or the line that says what is wrong with them.
-fn with_words(words: Words, input: &[u8], n: usize) -> PageLine
-    ensures { LineIs (with_words words input.now) n result }
+fn with_words(words: Words, input: &[u8], n: usize) -> Option<Line>
+    ensures { LineAt (with_words words input.now) n result }
 {
     let header = words.header;
     let wanted = slots_for(header);
     match plan_ratios::read_ratios(input, wanted) {
-        Ok(read) => page_line(header, words.banc, slots::rows(&read.ratios), n),
+        Ok(read) => plan_page::page_line(header, words.banc, slots::rows(&read.ratios), n),
         Err(error) => only(notes::ratios_line(error, wanted as u64), n),
     }
-}
-
-// A line of the page.
-fn page_line(header: FrameHeader, banc: u32, smr_db: [[f64; 32]; 2], n: usize) -> PageLine
-    ensures { LineIs (page_of header banc smr_db) n result }
-{
-    let there = n < plan_page::page_length(header, banc, smr_db);
-    let line = plan_page::page_line(header, banc, smr_db, n);
-    PageLine { there, line }
 }
 
 // How many ratios a header asks for.

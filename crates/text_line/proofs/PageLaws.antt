@@ -1,37 +1,19 @@
 -- Laws of pages.
-use mathlib.Core.Path.{◌≡◌, refl, sym, ap, subst, ◌∙◌}
-use mathlib.Core.Bool.{true, false}
-use mathlib.Core.List.{List, [], ◌∷◌}
-use Prim.Native.Nat.{ℕ, zero, suc}
-use native.Mathlib.Omega.{arith}
-use borrow.Author.Tests.{le-ltb}
-use Rattle.std.proofs.Common.{T, length, ltb→lt, ltb-false}
-use Rattle.std.proofs.lemmas.Option.{slice_get_past, slice_get-get_or}
-use Rattle.std.specs.Prelude.{None, Some}
-use Rattle.text_line.specs.declared.line.Text.{Text}
-use Rattle.text_line.specs.declared.page.PageLine.{PageLine}
-use Rattle.text_line.specs.Line.{text_of}
-use Rattle.text_line.specs.Page.{LineIs, LineAt}
+use Rattle.std.proofs.Common.{◌≡◌, refl, ap, ◌∙◌, List, [], ◌∷◌, ◌++◌, ℕ, zero, suc, ◌+◌, ◌<◌, length, arith}
+use Rattle.std.specs.Prelude.{Option, slice_get}
 
--- the same page
-pub moved : {page other : List (List ℕ)} {n : ℕ} {r : PageLine} → page ≡ other → LineIs page n r → LineIs other n r
-moved {page} {other} {n} {r} e i = subst (λ (p : List (List ℕ)). LineIs p n r) e i
+-- the same page has the same lines
+pub moved : {page other : List (List ℕ)} {line : Option (List ℕ)} (n : ℕ) → page ≡ other → line ≡ slice_get page n → line ≡ slice_get other n
+moved n e i = i ∙ ap (λ (p : List (List ℕ)). slice_get p n) e
 
--- ---- a line that stands alone
+-- a line of two parts is one of the first, or one of the second
+module _ {A : Type 0} where
+  pub in_front : (a b : List A) (n : ℕ) → n < length a → slice_get (a ++ b) n ≡ slice_get a n
+  in_front [] b n h = absurd (omega arith)
+  in_front (x ∷ a) b zero h = refl
+  in_front (x ∷ a) b (suc n) h = in_front a b n (omega arith)
 
-pub first : (l : Text 256) (n : ℕ) → n ≡ 0 → LineIs (text_of l ∷ []) n (record { there = true; line = l })
-first l n e = rw e (record { there = refl; line = refl })
-
-pub none_behind : (l z : Text 256) (n : ℕ) → (n ≡ 0 → ⊥) → text_of z ≡ [] → LineIs (text_of l ∷ []) n (record { there = false; line = z })
-none_behind l z zero h e = absurd (h refl)
-none_behind l z (suc n) h e = record { there = sym (le-ltb (suc n) 1 (omega arith)); line = e }
-
--- ---- a line that is there, as an `Option`
-
-pub some_at : {page : List (List ℕ)} {n : ℕ} {r : PageLine} → LineIs page n r → r.there ≡ true → LineAt page n (Some r.line)
-some_at {page} {n} {r} i e =
-    let within = ltb→lt n (length page) (subst T (sym e ∙ i.there) tt) in
-    ap Some i.line ∙ sym (slice_get-get_or page n [] within)
-
-pub none_at : {page : List (List ℕ)} {n : ℕ} {r : PageLine} → LineIs page n r → r.there ≡ false → LineAt page n None
-none_at {page} {n} {r} i e = sym (slice_get_past page n (ltb-false n (length page) (sym i.there ∙ e)))
+  pub in_back : (a b : List A) (n k : ℕ) → n ≡ length a + k → slice_get (a ++ b) n ≡ slice_get b k
+  in_back [] b n k h = ap (slice_get b) (omega arith)
+  in_back (x ∷ a) b zero k h = absurd (omega arith)
+  in_back (x ∷ a) b (suc n) k h = in_back a b n k (omega arith)

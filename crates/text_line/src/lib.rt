@@ -6,14 +6,5 @@ mod decibels;
 mod line;
 mod page;
 
-ghost use Rattle.std.specs.Prelude.{◌≡◌, min};
-
 pub use line::{EndedLine, Line, Text};
-pub use page::{PageLine, only};
-
-// The smaller of two.
-pub fn least(a: usize, b: usize) -> usize
-    ensures { result ≡ min a b }
-{
-    a.min(b)
-}
+pub use page::only;

@@ -2,6 +2,7 @@
 ghost use Rattle.std.specs.Prelude.{◌≤◌};
 
 // A text of at most N bytes: the first `length` of them.
+// Kept: no heap, so the bytes are a fixed array with their length beside them; `within` ties the two, and none but these methods sees them.
 #[derive(Clone, Copy)]
 pub struct Text<const N: usize> {
     bytes: [u8; N],
@@ -42,6 +43,7 @@ impl<const N: usize> Text<N> {
         let n = added.len().min(N - at);
         let mut bytes = self.bytes;
         let buffer = &mut bytes[..];
+        // Kept: what does not fit is cut off, so of the text added only a part goes into a part of the array.
         buffer[at..at + n].copy_from_slice(&added[..n]);
         Text {
             bytes,
@@ -88,6 +90,7 @@ impl Line {
     }
 
     // With a number behind.
+    // Kept: the digits are already those that itoa prints; `write!` would promise them only where it answers `Ok`, as said above.
     pub fn number(self, n: u64) -> Line
         ensures { text_of result ≡ cut (text_of self ++ number_text n) }
     {

@@ -55,16 +55,6 @@ all_read {old} {new} {at} {i} {count} s l m = record { within = s.within; words 
     counted : Laid (i - 1) (take at new) → Laid (count - 1) (take at new)
     counted a = record { words = a.words; all = a.all ∙ omega (arith, s.started); each = a.each }
 
--- a word that does not fit
-pub not_there : (old new : List ℕ) (at : ℕ) → at ≤ length old → length new ≡ length old → take at new ≡ take at old → WordRead old new at (length new)
-not_there old new at h e k = record {
-  within = omega arith;
-  onward = omega arith;
-  same = e;
-  kept = k;
-  word = λ less. absurd (omega arith);
-}
-
 -- a word of `size` bytes, whose byte 0 is put behind it where there is room
 pub word_there : (old mid new : List ℕ) (at size r : ℕ) → at ≤ length old → length mid ≡ length old → take at mid ≡ take at old
     → WordEnded mid new (at + size) r → WordRead old new at r

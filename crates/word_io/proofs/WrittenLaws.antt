@@ -9,8 +9,7 @@ use Rattle.std.specs.Io.KnownBytes.{Appends}
 use Rattle.text_line.specs.declared.line.Text.{Text}
 use Rattle.text_line.specs.Line.{text_of, fed}
 use Rattle.text_line.specs.Page.{LineAt}
-use Rattle.word_io.specs.Words.{InputRead}
-use Rattle.word_io.specs.Written.{lines_in, page_text, Written}
+use Rattle.word_io.specs.Written.{lines_in, page_text}
 
 -- as many lines are there
 unfoldable pub Counted : List (List ℕ) → ℕ → Type 0
@@ -96,13 +95,3 @@ before_too first old new p k = so_far old new p k k (λ f o. f)
 pub at_first : {X E : Type 0} (r : Result X E) → OnOk r (IsOk r)
 at_first (Ok x) = refl
 at_first (Err e) = tt
-
--- the words and the input that were read are those of the answer
-pub all_written : (answer : List ℕ → List ℕ → List (List ℕ)) (new inputOld inputNew : List ℕ) (size n r : ℕ) → InputRead (take size new) inputOld inputNew n
-    → r ≡ lines_in (answer (take size new) (take n inputNew)) → Written answer r
-all_written answer new inputOld inputNew size n r i a = record {
-  words = take size new;
-  input = take n inputNew;
-  unasked = λ h. ap (λ (k : ℕ). take k inputNew) (i.unasked h);
-  all = a;
-}

@@ -15,6 +15,7 @@ pub trait Answer {
     ghost page: { List ℕ → List ℕ → List (List ℕ) };
 
     // The line of a number, counted from 0, where there is one.
+    // Kept: words and input are read in `run`, after the program is made; a struct that lends both would need a lifetime in this trait.
     fn line(&self, words: &[u8], input: &[u8], n: usize) -> Option<Line>
         ensures { LineAt (page words.now input.now) n result };
 }
@@ -28,6 +29,7 @@ pub fn run<A: Answer, R: Env + Input + Print>(
     ensures written { Written A.page result }
     ensures kept { OnOk outcome.new (IsOk outcome.old) }
 {
+    // Kept: no heap, so words and input stand at the front of fixed arrays, and the slices are what was read.
     let mut words = [0u8; 4096];
     let size = crate::read_words(rt, crate::word_count(rt), &mut words);
     let mut input = [0u8; 65_536];
@@ -43,6 +45,8 @@ pub fn run<A: Answer, R: Env + Input + Print>(
 
 // Writes the answer line by line, and answers how many there were. A proved loop has to end: lines are counted as far as 64 bits count.
 // Where no write failed, what was written is the answer's text.
+// Kept: the number is a count of lines, and no refusal: what fails goes into `outcome`, since the lines behind it are still written.
+// Kept: words, input, output and outcome are lent for this one call; a struct of them would be built by each of three callers to be taken apart here.
 pub fn write_answer<A: Answer, W: Write>(
     answer: &A,
     words: &[u8],

@@ -1,25 +1,16 @@
 -- `plan_ratios::count_lines` meets its contract.
-use Rattle.std.proofs.Common.{ℕ, List, length, ap, arith, drop_of_length-le, rules}
-use Rattle.plan_text.specs.Bytes.{pieces}
-use Rattle.plan_text.proofs.ByteLaws.{pieces_at}
+use Rattle.std.proofs.Common.{sym, ap, ap₂, ◌∙◌, ℕ, ◌+◌, rules, tests}
+use Rattle.std.specs.Option.{option_copied}
+use Rattle.std.proofs.lemmas.Iterator.{YieldsList-from_slice}
+use Rattle.std.proofs.lemmas.Iterator.Consumers.{YieldsList-from_filter, count_from_yields_List}
 use Rattle.plan_text.specs.Lines.{ends_line}
+use Rattle.plan_ratios.proofs.LineLaws.{lines_by_last}
 use Rattle.plan_ratios.proofs.count_lines.Goals as goal
 
-pub loop-at-init : goal.loop-at-init
-loop-at-init c = (search rules, search rules)
-
-pub loop-at-smaller : goal.loop-at-smaller
-loop-at-smaller c = omega (arith, c.past-at.ensures, c.find_byte-end.ensures, c.loop-at-test.true)
-
-pub loop-at-preserved : goal.loop-at-preserved
-loop-at-preserved c =
-    let e = c.find_byte-end.ensures in
-    let p = c.past-at.ensures in
-    let s =
-    pieces_at ends_line c.args.text.now c.loop-at.at c.find_byte-end.result c.past-at.result
-    c.loop-at-test.true e p in
-    (omega (arith, c.loop-at-test.true), omega (arith, c.loop-at.invariant.1, ap length s))
-
-pub returns : goal.returns
-returns c =
-    omega (arith, c.loop-at.invariant.1, ap (λ (t : List ℕ). length (pieces ends_line t)) (drop_of_length-le c.args.text.now c.loop-at-test.false))
+pub returns-in-Some : goal.returns-in-Some
+returns-in-Some c =
+    let text = c.args.text.now in
+    let feeds =
+    count_from_yields_List _ _ c.count-feeds.ensures.ran
+    (YieldsList-from_filter _ ends_line (YieldsList-from_slice text cc) c.filter.ensures.closure (λ x b q k. search (rules, tests))) in
+    ap₂ (λ (n m : ℕ). n + m) feeds c.from.ensures ∙ sym (lines_by_last ends_line text _ (sym c.last.ensures.value ∙ ap option_copied c.in-Some.is))

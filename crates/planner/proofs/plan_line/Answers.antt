@@ -4,19 +4,19 @@ use Rattle.planner.proofs.PlanLaws.{words_too_long, input_too_long, good_words, 
 use Rattle.planner.proofs.plan_line.Goals as goal
 
 pub returns-then-words-ge4096 : goal.returns-then-words-ge4096
-returns-then-words-ge4096 c = moved (words_too_long _ _ _ c.if-words-ge4096.true c.long_words.ensures) c.only.ensures
+returns-then-words-ge4096 c = moved c.args.n (words_too_long _ _ _ c.if-words-ge4096.true c.long_words.ensures) c.only.ensures
 
 pub returns-then-input-ge65536 : goal.returns-then-input-ge65536
-returns-then-input-ge65536 c = moved (input_too_long _ _ _ c.if-words-ge4096.false c.if-input-ge65536.true c.long_input.ensures) c.only-then-input-ge65536.ensures
+returns-then-input-ge65536 c = moved c.args.n (input_too_long _ _ _ c.if-words-ge4096.false c.if-input-ge65536.true c.long_input.ensures) c.only-then-input-ge65536.ensures
 
 pub returns-in-Ok : goal.returns-in-Ok
 returns-in-Ok c =
-    moved
+    moved c.args.n
     (good_words c.args.words.now c.args.input.now c.if-words-ge4096.false c.if-input-ge65536.false _ c.in-Ok.ensures)
     c.with_words.ensures
 
 pub returns-in-Err : goal.returns-in-Err
 returns-in-Err c =
-    moved
+    moved c.args.n
     (bad_words c.args.words.now c.args.input.now c.if-words-ge4096.false c.if-input-ge65536.false _ _ c.in-Err.ensures c.words_line.ensures)
     c.only-in-Err.ensures
