@@ -8,7 +8,8 @@ use Rattle.side_info.specs.SideInfo.{side_info}
 use Rattle.c_answers.specs.declared.refusal.Refusal.{Refusal}
 use Rattle.c_answers.specs.Answers.{Meaning, refused, meant, asked}
 use Rattle.c_answers.specs.Refusals.{refusal_number, meaning_in}
-use Rattle.c_side_info.specs.Arguments.{short_record, are_codes, coded, record_in, Frame, frame, framed}
+use Rattle.c_side_info.specs.declared.record.Frame.{Frame}
+use Rattle.c_side_info.specs.Arguments.{short_record, are_codes, coded, record_in, frame, framed}
 
 -- what a record makes of a header's meaning
 abbrev with_record : Option SideInfo → Meaning FrameHeader → Meaning Frame

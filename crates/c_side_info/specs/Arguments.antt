@@ -8,6 +8,7 @@ use Rattle.side_info.specs.declared.SideInfo.{SideInfo}
 use Rattle.side_info.specs.SideInfo.{side_info}
 use Rattle.c_answers.specs.declared.arguments.HeaderNumbers.{HeaderNumbers}
 use Rattle.c_side_info.specs.declared.record.RecordSlices.{RecordSlices}
+use Rattle.c_side_info.specs.declared.record.Frame.{Frame}
 use Rattle.c_answers.specs.Answers.{Meaning, asked}
 use Rattle.c_answers.specs.Arguments.{header_in}
 
@@ -31,10 +32,6 @@ record_in steps scfsi index =
     cond (are_codes (take 64 scfsi)) (Some (side_info (take 64 steps) (map coded (take 64 scfsi)) (take 192 index))) None
 
 -- ---- with its header
-
-pub record Frame : Type 0 where
-  pub header : FrameHeader
-  pub side : SideInfo
 
 abbrev pub frame : FrameHeader → SideInfo → Frame
 frame h r = record { header = h; side = r }

@@ -5,7 +5,7 @@ use Rattle.side_info_writer.specs.Written.{WrittenAnswer, written_of}
 use Rattle.record_check.specs.Check.{CheckAnswer, check_of}
 use Rattle.canonical_form.specs.Canonical.{canonical_of}
 use Rattle.c_answers.specs.Answers.{Reply, reply}
-use Rattle.c_side_info.specs.Arguments.{Frame}
+use Rattle.c_side_info.specs.declared.record.Frame.{Frame}
 
 -- a writer's answer in its two slices: the bytes; and how many of their bits are used
 abbrev pub bytes_in : WrittenAnswer → Reply ℕ

@@ -3,20 +3,22 @@
 // what the numbers and the scfsi codes mean (14), then what the function itself asks.
 #![tactic(auto)]
 
-ghost use Rattle.std.specs.Prelude.{◌||◌, ◌≤◌, ltb, length};
+ghost use Rattle.std.specs.Prelude.{◌||◌, ltb, length};
 ghost use Rattle.c_answers.specs.Answers.{answered, Answers};
 ghost use Rattle.c_answers.specs.Refusals.{number_in};
 ghost use Rattle.c_side_info.specs.Arguments.{frame_asked};
-ghost use Rattle.c_side_info.specs.Replies.{bytes_in, bits_in, bytes_written, bits_written, bytes_canonical, bits_canonical, place_checked};
+ghost use Rattle.c_side_info.specs.Replies.{bytes_written, bits_written, bytes_canonical, bits_canonical, place_checked};
 
 use c_answers::arguments::HeaderNumbers;
 use c_answers::refusal::Refusal;
 use c_answers::writing;
-use side_info_writer::WrittenSideInfo;
+use record_checker::RecordError;
 
 mod record;
+mod replies;
 
 pub use record::RecordSlices;
+use replies::put_written;
 
 // The side information as bytes, and how many of their bits are used.
 pub fn write_side_info(
@@ -37,16 +39,12 @@ pub fn write_side_info(
         out.old (number_in result) out.new }
 {
     let frame = record.frame(given, (bytes.len() < 174) | (out.len() < 1))?;
-    let written = side_info_writer::write_side_info(
-        frame.header,
-        frame.nb_steps,
-        frame.scfsi,
-        frame.scalefactor,
-    );
+    let written = side_info_writer::write_side_info(frame.header, &frame.side);
     Ok(put_written(written, bytes, out))
 }
 
 // The same in its one form: each active slot with the scfsi that sends the fewest indices.
+// Kept: C has a name for each writer; a shared body would take the writer as a closure, and the two clauses would be drawn from its `F.post` at both calls.
 pub fn write_side_info_canonical(
     given: HeaderNumbers,
     record: RecordSlices,
@@ -65,24 +63,8 @@ pub fn write_side_info_canonical(
         out.old (number_in result) out.new }
 {
     let frame = record.frame(given, (bytes.len() < 174) | (out.len() < 1))?;
-    let written = canonical_writer::write_side_info_canonical(
-        frame.header,
-        frame.nb_steps,
-        frame.scfsi,
-        frame.scalefactor,
-    );
+    let written = canonical_writer::write_side_info_canonical(frame.header, &frame.side);
     Ok(put_written(written, bytes, out))
-}
-
-// A writer's answer into its slices.
-fn put_written(written: WrittenSideInfo, bytes: &mut [u8], out: &mut [u32]) -> u32
-    requires { (174 ≤ length bytes.old) × (1 ≤ length out.old) }
-    ensures bytes_written { Answers (bytes_in written) bytes.old result bytes.new }
-    ensures out_written { Answers (bits_in written) out.old result out.new }
-{
-    writing::put(&written.bytes, bytes);
-    out[0] = written.bits_used;
-    written.number
 }
 
 // Whether the record hangs together in the header's layout; where it does not, the subband and the channel that it fails at.
@@ -98,13 +80,17 @@ pub fn check_record(
         out.old (number_in result) out.new }
 {
     let frame = record.frame(given, out.len() < 2)?;
-    let checked = record_checker::check_record(
-        frame.header,
-        frame.nb_steps,
-        frame.scfsi,
-        frame.scalefactor,
-    );
-    out[0] = checked.subband;
-    out[1] = checked.channel;
-    Ok(checked.number)
+    let (number, place) = match record_checker::check_record(frame.header, &frame.side) {
+        Ok(()) => (0, [0, 0]),
+        Err(RecordError::Header(error)) => (error.number(), [0, 0]),
+        Err(
+            RecordError::Slot {
+                error,
+                subband,
+                channel,
+            },
+        ) => (error.number(), [subband, channel]),
+    };
+    writing::put(&place, out);
+    Ok(number)
 }

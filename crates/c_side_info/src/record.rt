@@ -1,12 +1,13 @@
 // The record of a frame's side information, read from its three slices.
 ghost use Rattle.std.specs.Prelude.{◌≡◌, map};
+ghost use Rattle.c_answers.specs.Refusals.{meaning_in};
 ghost use Rattle.c_side_info.specs.Arguments.{are_codes, coded, frame_asked};
-ghost use Rattle.c_side_info.specs.Parts.{frame_in};
 
 use audio_data::Scfsi;
 use c_answers::arguments::HeaderNumbers;
 use c_answers::refusal::Refusal;
 use header::FrameHeader;
+use side_info::SideInfo;
 
 // The three slices of a record: steps and scfsi codes by slot, scalefactor indices at 3 * slot + granule.
 #[derive(Clone, Copy)]
@@ -18,18 +19,16 @@ pub struct RecordSlices<'a> {
 
 // A header with the record of its frame.
 #[derive(Clone, Copy)]
-pub struct FrameGiven {
+pub struct Frame {
     pub header: FrameHeader,
-    pub nb_steps: [u32; 64],
-    pub scfsi: [Scfsi; 64],
-    pub scalefactor: [u8; 192],
+    pub side: SideInfo,
 }
 
 impl RecordSlices<'_> {
     // The record of the first elements, with its header; refused where one of the slices is short, or another slice of the call is, and where a number of the
     // header or a scfsi means nothing.
-    pub(crate) fn frame(self, given: HeaderNumbers, short: bool) -> Result<FrameGiven, Refusal>
-        ensures { frame_in result ≡ frame_asked short given self.entry }
+    pub(crate) fn frame(self, given: HeaderNumbers, short: bool) -> Result<Frame, Refusal>
+        ensures { meaning_in result ≡ frame_asked short given self.entry }
     {
         let steps = self.steps.first_chunk().ok_or(Refusal::Short)?;
         let codes = self.scfsi.first_chunk().ok_or(Refusal::Short)?;
@@ -38,12 +37,12 @@ impl RecordSlices<'_> {
         if !are_codes(codes) {
             return Err(Refusal::NoMeaning);
         }
-        Ok(FrameGiven {
-            header,
-            nb_steps: *steps,
+        let side = SideInfo {
+            steps: *steps,
             scfsi: slots(codes),
-            scalefactor: *index,
-        })
+            scalefactors: *index,
+        };
+        Ok(Frame { header, side })
     }
 }
 
@@ -58,11 +57,5 @@ fn are_codes(codes: &[u8; 64]) -> bool
 fn slots(codes: &[u8; 64]) -> [Scfsi; 64]
     ensures { result ≡ map coded codes.now }
 {
-    codes.map(|code| slot(code))
-}
-
-fn slot(code: u8) -> Scfsi
-    ensures { result ≡ coded code }
-{
-    Scfsi::of_code(code)
+    codes.map(|code| Scfsi::of_code(code))
 }

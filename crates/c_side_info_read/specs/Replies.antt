@@ -19,17 +19,17 @@ header_asked n steps scfsi index out = asked (short steps scfsi index out) (head
 
 -- the codes of scfsi
 abbrev pub codes_of : List Scfsi → List ℕ
-codes_of slots = map (λ s. code_of s.scfsi) slots
+codes_of slots = map code_of slots
 
 -- a reader's answer in its four slices: by slot the steps and the scfsi codes; the scalefactor indices; and how many bits are used
 abbrev pub steps_in : ReadAnswer → Reply ℕ
-steps_in r = reply r.number r.nb_steps
+steps_in r = reply r.number r.info.steps
 
 abbrev pub scfsi_in : ReadAnswer → Reply ℕ
-scfsi_in r = reply r.number (codes_of r.scfsi)
+scfsi_in r = reply r.number (codes_of r.info.scfsi)
 
 abbrev pub indices_in : ReadAnswer → Reply ℕ
-indices_in r = reply r.number r.scalefactor
+indices_in r = reply r.number r.info.scalefactors
 
 abbrev pub bits_in : ReadAnswer → Reply ℕ
 bits_in r = reply r.number (r.bits_used ∷ [])

@@ -3,19 +3,21 @@
 // then what the numbers mean (14), then what the function itself asks.
 #![tactic(auto)]
 
-ghost use Rattle.std.specs.Prelude.{◌≡◌, ◌≤◌, length};
-ghost use Rattle.audio_data.specs.Scfsi.{code_of};
+ghost use Rattle.std.specs.Prelude.{◌≡◌, length};
 ghost use Rattle.c_answers.specs.Answers.{answered, Answers};
 ghost use Rattle.c_answers.specs.Refusals.{number_in};
-ghost use Rattle.c_side_info_read.specs.Replies.{header_asked, codes_of, steps_in, scfsi_in, indices_in, bits_in, steps_read, scfsi_read, indices_read, bits_read};
+ghost use Rattle.c_side_info_read.specs.Replies.{header_asked, codes_of, steps_read, scfsi_read, indices_read, bits_read};
+ghost use Rattle.side_info_reading.specs.Reading.{nothing};
 
 use audio_data::Scfsi;
 use c_answers::arguments::HeaderNumbers;
 use c_answers::refusal::Refusal;
 use c_answers::writing;
-use side_info_reading::ReadSideInfo;
+use side_info::SideInfo;
+use side_info_reader::ReadSideInfo;
 
 // The record that stands at the front of the bytes, and how many of their bits are used.
+// Kept: C hands over each slice of the record by itself, and each has its own clause.
 pub fn read_side_info(
     given: HeaderNumbers,
     bytes: &[u8],
@@ -47,40 +49,35 @@ pub fn read_side_info(
 {
     let short = (steps.len() < 64) | ((scfsi.len() < 64) | ((index.len() < 192) | (out.len() < 1)));
     let header = given.header(short)?;
-    let read = side_info_reader::read_side_info(header, bytes);
-    Ok(put_read(read, steps, scfsi, index, out))
+    let (number, read) = match side_info_reader::read_side_info(header, bytes) {
+        Ok(read) => (0, read),
+        Err(error) => (error.number(), nothing()),
+    };
+    writing::put(&read.info.steps, steps);
+    writing::put(&codes_of(read.info.scfsi), scfsi);
+    writing::put(&read.info.scalefactors, index);
+    out[0] = read.bits_used;
+    Ok(number)
 }
 
 // The codes of scfsi.
 fn codes_of(slots: [Scfsi; 64]) -> [u8; 64]
     ensures { result ≡ codes_of slots }
 {
-    slots.map(|slot| code(slot))
+    slots.map(|slot| slot.code())
 }
 
-fn code(slot: Scfsi) -> u8
-    ensures { result ≡ code_of slot.scfsi }
+// What stands beside a refusal: every slot idle, and no bit used.
+#[tactic(auto, unfolding(side_info_reading::specs::Reading::nothing))]
+fn nothing() -> ReadSideInfo
+    ensures { result.info ≡ nothing × result.bits_used ≡ 0 }
 {
-    slot.scfsi.code()
-}
-
-// A reader's answer into its slices.
-fn put_read(
-    read: ReadSideInfo,
-    steps: &mut [u32],
-    scfsi: &mut [u8],
-    index: &mut [u8],
-    out: &mut [u32],
-) -> u32
-    requires { (64 ≤ length steps.old) × (64 ≤ length scfsi.old) × (192 ≤ length index.old) × (1 ≤ length out.old) }
-    ensures steps_written { Answers (steps_in read) steps.old result steps.new }
-    ensures scfsi_written { Answers (scfsi_in read) scfsi.old result scfsi.new }
-    ensures index_written { Answers (indices_in read) index.old result index.new }
-    ensures out_written { Answers (bits_in read) out.old result out.new }
-{
-    writing::put(&read.nb_steps, steps);
-    writing::put(&codes_of(read.scfsi), scfsi);
-    writing::put(&read.scalefactor, index);
-    out[0] = read.bits_used;
-    read.number
+    ReadSideInfo {
+        info: SideInfo {
+            steps: [0; 64],
+            scfsi: [Scfsi::ThreePerGranule; 64],
+            scalefactors: [0; 192],
+        },
+        bits_used: 0,
+    }
 }

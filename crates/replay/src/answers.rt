@@ -1,4 +1,19 @@
 // The library's answers as the numbers of a line.
+use replay_answers::{Verdict, verdict_on};
+
+// The verdict on what is answered to the one value that stands before the expected number.
+pub fn verdict_of<T: TryFrom<u64>, F: FnOnce(T) -> u64>(
+    numbers: &[u64],
+    answer: F,
+) -> Option<Verdict>
+where
+    T::Error: Copy,
+    requires { F.IsAlwaysCallable answer }
+{
+    let (given, expected) = numbers.split_first()?;
+    let value = T::try_from(*given).ok()?;
+    verdict_on(expected, &[answer(value)])
+}
 
 // Bytes packed eight to a number, the first in the lowest bits; places behind the last byte are 0.
 pub fn packed<const N: usize>(bytes: &[u8]) -> [u64; N] {

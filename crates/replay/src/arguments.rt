@@ -1,30 +1,17 @@
 // The arguments of a line: from its numbers to values of the library's types.
 use audio_data::Scfsi;
 use header::{FrameHeader, Mode, ModeExtension};
+use side_info::SideInfo;
 use std::array;
-use std::num::f64_from_bits_with_nan;
-
-// The double of a bit pattern; NaN for each of NaN's patterns. Std's own name, handed to `map`, is not proved.
-pub fn double(bits: u64) -> f64 {
-    f64_from_bits_with_nan(bits)
-}
+use std::num::f64_from_bits_with_nan as double;
 
 // Of 0 or 1.
+// Kept: std makes a number of a bool, and no bool of a number.
 pub fn flag(n: u64) -> Option<bool> {
     match n {
         0 => Some(false),
         1 => Some(true),
         _ => None,
-    }
-}
-
-// The scfsi of a two-bit code.
-pub fn scfsi_of(n: u64) -> Option<Scfsi> {
-    let code = u8::try_from(n).ok()?;
-    if code < 4 {
-        Some(Scfsi::of_code(code))
-    } else {
-        None
     }
 }
 
@@ -58,29 +45,25 @@ pub fn header_of(numbers: &[u64]) -> Option<(FrameHeader, &[u64])> {
 pub fn ratios_of(numbers: &[u64]) -> Option<([[f64; 32]; 2], &[u64])> {
     let (first, rest) = numbers.split_first_chunk::<32>()?;
     let (second, rest) = rest.split_first_chunk::<32>()?;
-    Some(([first.map(double), second.map(double)], rest))
-}
-
-// The side information of a frame, but for its header.
-#[derive(Clone, Copy)]
-pub struct Record {
-    pub steps: [u32; 64],
-    pub slots: [Scfsi; 64],
-    pub indices: [u8; 192],
+    let ratios = [
+        first.map(|bits| double(bits)),
+        second.map(|bits| double(bits)),
+    ];
+    Some((ratios, rest))
 }
 
 // A record, 64 numbers of steps, 2 numbers of 32 scfsi codes each and 24 numbers of 8 indices each, and the numbers behind it.
 // What is packed has its first in the lowest bits of a number.
-pub fn record_of(numbers: &[u64]) -> Option<(Record, &[u64])> {
+pub fn record_of(numbers: &[u64]) -> Option<(SideInfo, &[u64])> {
     let (steps, rest) = numbers.split_first_chunk::<64>()?;
     let (codes, rest) = rest.split_first_chunk::<2>()?;
     let (indices, rest) = rest.split_first_chunk::<24>()?;
-    let record = Record {
+    let info = SideInfo {
         steps: steps_of(steps)?,
-        slots: slots_of(*codes),
-        indices: bytes_of(indices),
+        scfsi: unpacked_codes(*codes),
+        scalefactors: bytes_of(indices),
     };
-    Some((record, rest))
+    Some((info, rest))
 }
 
 fn steps_of(numbers: &[u64; 64]) -> Option<[u32; 64]> {
@@ -91,7 +74,7 @@ fn steps_of(numbers: &[u64; 64]) -> Option<[u32; 64]> {
     Some(steps)
 }
 
-fn slots_of(codes: [u64; 2]) -> [Scfsi; 64] {
+fn unpacked_codes(codes: [u64; 2]) -> [Scfsi; 64] {
     array::from_fn(|slot| Scfsi::of_code((codes[slot / 32] >> (2 * (slot % 32)) & 3) as u8))
 }
 

@@ -86,12 +86,6 @@ impl Kind {
         Kind::WriteSideInfoCanonical,
     ];
 
-    // The kind of this number.
-    fn numbered(number: u64) -> Option<Kind> {
-        let place = usize::try_from(number.checked_sub(1)?).ok()?;
-        Kind::ALL.get(place).copied()
-    }
-
     // The verdict on a line of this kind, from the numbers behind it; none where they cannot be read. The functions that
     // it calls take the same, and their comments say what stands behind the kind: the arguments, an arrow, the expected
     // answers. H is a header, as `header_of` reads it; found is 1 with the value behind it, or 0 with 0.
@@ -183,7 +177,8 @@ impl fmt::Display for Kind {
 // A line's kind and the verdict on it; none where the line cannot be read.
 pub fn replay(line: &[u64]) -> Option<(Kind, Verdict)> {
     let (number, rest) = line.split_first()?;
-    let kind = Kind::numbered(*number)?;
+    let place = usize::try_from(number.checked_sub(1)?).ok()?;
+    let kind = *Kind::ALL.get(place)?;
     let verdict = kind.verdict(rest)?;
     Some((kind, verdict))
 }

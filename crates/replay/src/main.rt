@@ -28,6 +28,7 @@ fn main(rt: HostRuntime) -> io::Result<()> {
 
 // A proved loop has to end, and nothing says that the input does: so there are no more turns than a number that no run
 // uses up. Where a read fails, the line counts as one that could not be read.
+// Kept: `read` says how much of the buffer it filled; std's `lines` allocate, and its `bytes` ask for the input byte by byte.
 fn read_all(from: &mut impl Read, line: &mut Line, tally: &mut Tally) {
     let mut buffer = [0; 65_536];
     for _ in 0..u64::MAX {

@@ -1,7 +1,7 @@
 // Kinds of sample codes.
-use crate::arguments::double;
 use encoder_samples::Triplet;
 use replay_answers::{Verdict, pair_verdict, verdict_on};
+use std::num::f64_from_bits_with_nan as double;
 
 // Steps sample -> number code: the number is 0, or 5 where no class has these steps.
 pub fn quantize_sample(numbers: &[u64]) -> Option<Verdict> {

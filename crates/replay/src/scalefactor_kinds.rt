@@ -1,21 +1,23 @@
 // Kinds of scalefactor indices and of their selection.
-use crate::arguments::{double, flag, scfsi_of};
+use crate::answers::verdict_of;
+use crate::arguments::flag;
+use audio_data::Scfsi;
 use encoder_scfsi::TransmissionPattern;
 use replay_answers::{Verdict, verdict_on};
+use std::num::f64_from_bits_with_nan as double;
 
 // Magnitude -> index.
 pub fn pick_scalefactor_index(numbers: &[u64]) -> Option<Verdict> {
-    let [magnitude, expected @ ..] = numbers else {
-        return None;
-    };
-    let index = encoder_scalefactors::pick_scalefactor_index(double(*magnitude));
-    verdict_on(expected, &[u64::from(index)])
+    verdict_of(numbers, |magnitude| {
+        u64::from(encoder_scalefactors::pick_scalefactor_index(double(magnitude)))
+    })
 }
 
 // Twelve samples -> index.
 pub fn extract_scalefactor_index(numbers: &[u64]) -> Option<Verdict> {
     let (samples, expected) = numbers.split_first_chunk::<12>()?;
-    let index = encoder_scalefactors::extract_scalefactor_index(&samples.map(double));
+    let samples = samples.map(|bits| double(bits));
+    let index = encoder_scalefactors::extract_scalefactor_index(&samples);
     verdict_on(expected, &[u64::from(index)])
 }
 
@@ -61,11 +63,7 @@ pub fn select_scfsi(numbers: &[u64]) -> Option<Verdict> {
 
 // First index -> checksum.
 pub fn scfsi_checksum(numbers: &[u64]) -> Option<Verdict> {
-    let [a, expected @ ..] = numbers else {
-        return None;
-    };
-    let sum = checksum(u8::try_from(*a).ok()?);
-    verdict_on(expected, &[u64::from(sum)])
+    verdict_of(numbers, |a| u64::from(checksum(a)))
 }
 
 // What is selected for three indices: the three used, 1 for each of them that is transmitted, the code of the scfsi, and
@@ -102,12 +100,10 @@ fn checksum(a: u8) -> u32 {
 
 // Difference, as 16 bits -> class.
 pub fn classify_difference(numbers: &[u64]) -> Option<Verdict> {
-    let [bits, expected @ ..] = numbers else {
-        return None;
-    };
-    let difference = u16::try_from(*bits).ok()?.cast_signed();
-    let class = encoder_scfsi::classify_difference(difference);
-    verdict_on(expected, &[u64::from(class.as_index())])
+    verdict_of(numbers, |bits: u16| {
+        let class = encoder_scfsi::classify_difference(bits.cast_signed());
+        u64::from(class.as_index())
+    })
 }
 
 // For each of three indices 1 where it is transmitted, else 0 -> how many are.
@@ -128,6 +124,9 @@ pub fn parts_on_wire(numbers: &[u64]) -> Option<Verdict> {
     let [code, expected @ ..] = numbers else {
         return None;
     };
-    let scfsi = scfsi_of(*code)?;
+    if *code > 3 {
+        return None;
+    }
+    let scfsi = Scfsi::of_code(*code as u8);
     verdict_on(expected, &[scfsi.parts_on_wire() as u64])
 }

@@ -1,4 +1,5 @@
 // Kinds of headers, allocation tables, classes of quantization and multipliers.
+use crate::answers::verdict_of;
 use crate::arguments::header_of;
 use bitalloc::BitAllocTable;
 use header::{Mode, ModeExtension};
@@ -6,13 +7,24 @@ use quantization::QuantClass;
 use replay_answers::{Verdict, found_verdict, pair_verdict, verdict_on};
 use std::num::f64_to_bits_with_nan;
 
-// Table -> sblimit.
-pub fn sblimit(numbers: &[u64]) -> Option<Verdict> {
-    let [table, expected @ ..] = numbers else {
+// The verdict on what is found in a table's row of a subband, by a place in it or by steps.
+fn found_in_row<F: FnOnce(BitAllocTable, usize, u32) -> Option<u32>>(
+    numbers: &[u64],
+    find: F,
+) -> Option<Verdict>
+    requires { F.IsAlwaysCallable find }
+{
+    let [table, sb, key, expected @ ..] = numbers else {
         return None;
     };
     let table = BitAllocTable::try_from(*table).ok()?;
-    verdict_on(expected, &[table.sblimit() as u64])
+    let key = u32::try_from(*key).ok()?;
+    found_verdict(expected, find(table, *sb as usize, key))
+}
+
+// Table -> sblimit.
+pub fn sblimit(numbers: &[u64]) -> Option<Verdict> {
+    verdict_of(numbers, |table: BitAllocTable| table.sblimit() as u64)
 }
 
 // Table sb -> nbal.
@@ -26,40 +38,25 @@ pub fn nbal(numbers: &[u64]) -> Option<Verdict> {
 
 // Table sb index -> found steps.
 pub fn nb_steps(numbers: &[u64]) -> Option<Verdict> {
-    let [table, sb, index, expected @ ..] = numbers else {
-        return None;
-    };
-    let table = BitAllocTable::try_from(*table).ok()?;
-    let index = u32::try_from(*index).ok()?;
-    found_verdict(expected, table.nb_steps(*sb as usize, index))
+    found_in_row(numbers, |table, sb, index| table.nb_steps(sb, index))
 }
 
 // Table sb steps -> found index.
 pub fn allocation_index(numbers: &[u64]) -> Option<Verdict> {
-    let [table, sb, steps, expected @ ..] = numbers else {
-        return None;
-    };
-    let table = BitAllocTable::try_from(*table).ok()?;
-    let steps = u32::try_from(*steps).ok()?;
-    found_verdict(expected, table.allocation_index(*sb as usize, steps))
+    found_in_row(
+        numbers,
+        |table, sb, steps| table.allocation_index(sb, steps),
+    )
 }
 
 // Mode -> channels.
 pub fn mode_channels(numbers: &[u64]) -> Option<Verdict> {
-    let [mode, expected @ ..] = numbers else {
-        return None;
-    };
-    let mode = Mode::try_from(*mode).ok()?;
-    verdict_on(expected, &[mode.channels() as u64])
+    verdict_of(numbers, |mode: Mode| mode.channels() as u64)
 }
 
 // Extension -> bound.
 pub fn bound(numbers: &[u64]) -> Option<Verdict> {
-    let [extension, expected @ ..] = numbers else {
-        return None;
-    };
-    let extension = ModeExtension::try_from(*extension).ok()?;
-    verdict_on(expected, &[extension.bound() as u64])
+    verdict_of(numbers, |extension: ModeExtension| extension.bound() as u64)
 }
 
 // H -> 0 or 1.
@@ -86,10 +83,8 @@ pub fn bitrate_per_channel_kbps(numbers: &[u64]) -> Option<Verdict> {
 // H -> found table.
 pub fn select_table(numbers: &[u64]) -> Option<Verdict> {
     let (header, expected) = header_of(numbers)?;
-    match table_selection::select_table(header) {
-        Some(table) => pair_verdict(expected, 1, u64::from(table.number())),
-        None => pair_verdict(expected, 0, 0),
-    }
+    let selected = table_selection::select_table(header);
+    found_verdict(expected, selected.map(|table| table.number()))
 }
 
 // Steps -> found C D grouping samples_per_codeword bits_per_codeword.
@@ -120,36 +115,30 @@ fn class_numbers(found: Option<QuantClass>) -> [u64; 6] {
 
 // Steps -> 0 or 1.
 pub fn is_grouped(numbers: &[u64]) -> Option<Verdict> {
-    let [steps, expected @ ..] = numbers else {
-        return None;
-    };
-    let steps = u32::try_from(*steps).ok()?;
-    verdict_on(expected, &[u64::from(quantization::is_grouped(steps))])
+    verdict_of(numbers, |steps| u64::from(quantization::is_grouped(steps)))
 }
 
 // Steps -> bits, of a class with these steps; the other fields play no part.
 pub fn bits_per_sample(numbers: &[u64]) -> Option<Verdict> {
-    let [steps, expected @ ..] = numbers else {
-        return None;
-    };
-    let class = QuantClass {
-        nb_steps: u32::try_from(*steps).ok()?,
-        c: 0.0,
-        d: 0.0,
-        grouping: false,
-        samples_per_codeword: 0,
-        bits_per_codeword: 0,
-    };
-    verdict_on(expected, &[u64::from(class.bits_per_sample())])
+    verdict_of(numbers, |nb_steps| {
+        let class = QuantClass {
+            nb_steps,
+            c: 0.0,
+            d: 0.0,
+            grouping: false,
+            samples_per_codeword: 0,
+            bits_per_codeword: 0,
+        };
+        u64::from(class.bits_per_sample())
+    })
 }
 
 // Steps -> bits.
 pub fn sample_bits_for(numbers: &[u64]) -> Option<Verdict> {
-    let [steps, expected @ ..] = numbers else {
-        return None;
-    };
-    let steps = u32::try_from(*steps).ok()?;
-    verdict_on(expected, &[u64::from(quantization::sample_bits_for(steps))])
+    verdict_of(
+        numbers,
+        |steps| u64::from(quantization::sample_bits_for(steps)),
+    )
 }
 
 // Index -> multiplier.

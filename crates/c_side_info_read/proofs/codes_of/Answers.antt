@@ -6,4 +6,4 @@ use Rattle.c_answers.proofs.AnswerLaws.{mapped}
 use Rattle.c_side_info_read.proofs.codes_of.Goals as goal
 
 pub returns : goal.returns
-returns c = mapped _ _ (λ s. code_of s.scfsi) (ThreePerGranule) 0 _ _ 64 (search rules) (λ p x y q k. search rules) c.map.ensures.items
+returns c = mapped _ _ code_of (ThreePerGranule) 0 _ _ 64 (search rules) (λ p x y q k. search rules) c.map.ensures.items

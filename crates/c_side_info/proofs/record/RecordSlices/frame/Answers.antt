@@ -2,7 +2,7 @@
 use Rattle.std.proofs.Common.{◌≡◌, true, false, rules, ap, ◌∙◌, sym, Ok, Err}
 use Rattle.std.specs.Array.{IsFirstChunk}
 use Rattle.c_side_info.specs.Arguments.{are_codes}
-use Rattle.c_side_info.specs.Parts.{frame_in}
+use Rattle.c_answers.specs.Refusals.{meaning_in}
 use Rattle.c_side_info.proofs.RecordLaws.{no_header, no_codes, a_frame}
 use Rattle.c_side_info.proofs.record.RecordSlices.frame.Goals as goal
 
@@ -14,7 +14,7 @@ returns-in_err-header c =
     let x : IsFirstChunk a.self.index.now c.in_ok-index.index.now 192 = search rules in
     let e : c.from_residual-in_err-header.result ≡ Err c.in_err-header.field-0.0 = search rules in
     let r : c.header.result ≡ Err c.in_err-header.field-0.0 = search rules in
-    ap frame_in e ∙ no_header _ _ _ _ _ _ s k x _ _ _ c.header.ensures _ r
+    ap meaning_in e ∙ no_header _ _ _ _ _ _ s k x _ _ _ c.header.ensures _ r
 
 pub returns-then-not-are_codes : goal.returns-then-not-are_codes
 returns-then-not-are_codes c =
