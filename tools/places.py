@@ -3,6 +3,8 @@
 
 For each point a rule over the text, so that two runs list the same; what a rule lists is a candidate, and docs/DESIGN-PASS.md says
 which of them are places. With no COMMIT the files of the work tree are read. `--list` prints the candidates, else their numbers.
+A candidate counts as kept where a line `// Kept: ` with the reason stands beside it: above the item or in it, or, for parameters that
+travel together, in the comment at the file's head. `--open` lists those without such a line.
 """
 import collections
 import re
@@ -119,19 +121,19 @@ def option_shapes(files):
         for name, variants in enums(text):
             holding = [v for v in variants if "(" in v]
             if len(variants) == 2 and holding:
-                yield f"{file} enum {name}"
+                yield f"{file} enum {name}", [(file, name)]
         for name, fields in structs(text):
             names = [f.split(":")[0] for f in fields]
             types = {f.split(":")[0].strip(): f.split(":")[1].strip() for f in fields if ":" in f}
             if len(fields) > 1 and (names[0] in ("number", "answer", "there", "meant") or "section" in names):
-                yield f"{file} struct {name}"
+                yield f"{file} struct {name}", [(file, name)]
             elif any(t == "bool" for t in types.values()) and any(n in types for n in ("half", "there", "comment")):
-                yield f"{file} struct {name}"
+                yield f"{file} struct {name}", [(file, name)]
         for f in functions(file, text):
             if re.fullmatch(r"(\w+_)?(number|refusal|answer|kind|key_of)", f.name) and f.result in ("u8", "u32", "u64", "usize"):
-                yield f"{f.where()} -> {f.result}"
+                yield f"{f.where()} -> {f.result}", [(file, f.name)]
             elif re.search(r"\bnumber != 0\b|\bkey == 8\b|== 16\b|\bnumber == 0\b", f.body):
-                yield f"{f.where()} tests a number"
+                yield f"{f.where()} tests a number", [(file, f.name)]
 
 
 def twins(files):
@@ -142,14 +144,14 @@ def twins(files):
                 by_shape[shape(f)].append(f)
     for group in by_shape.values():
         if len(group) > 1:
-            yield " = ".join(f.where() for f in group)
+            yield " = ".join(f.where() for f in group), [(f.file, f.name) for f in group]
     by_fields = collections.defaultdict(list)
     for file, text in files:
         for name, fields in structs(text):
-            by_fields[tuple(sorted(fields))].append(f"{file} {name}")
+            by_fields[tuple(sorted(fields))].append((file, name))
     for group in by_fields.values():
         if len(group) > 1:
-            yield "struct " + " = ".join(group)
+            yield "struct " + " = ".join(" ".join(item) for item in group), group
 
 
 def counted_loops(files):
@@ -159,7 +161,7 @@ def counted_loops(files):
                 body = f.body[m.end():closing(f.body, m.end() - 1)]
                 for name in re.findall(r"\b[a-z_]\w*\b", m.group(1)):
                     if re.search(rf"\b{name} = {name} [+-] 1;|\b{name} [+-]= 1;|\b{name} = \w+\(|\b{name} = {name} \+ \w+;|\b{name} = \w+;|\b{name} = [\w:]+\(", body):
-                        yield f"{f.where()}: while{m.group(1).rstrip()}"
+                        yield f"{f.where()}: while{m.group(1).rstrip()}", [(file, f.name)]
                         break
 
 
@@ -170,13 +172,12 @@ def by_hand(files):
     for file, text in files:
         for f in functions(file, text):
             if re.fullmatch(BY_HAND, f.name) and not file.startswith("folgrist_mp2_c/"):
-                yield f.where()
+                yield f.where(), [(file, f.name)]
 
 
 def together(files):
-    facts = collections.Counter()
-    where = collections.defaultdict(list)
-    lists = collections.Counter()
+    facts = collections.defaultdict(list)
+    lists = collections.defaultdict(list)
     for file, text in files:
         for f in functions(file, text):
             for kind, clause in f.clauses:
@@ -184,19 +185,19 @@ def together(files):
                     for part in re.split(r" × ", clause):
                         part = part.strip("() ")
                         key = (file.split("/")[0], part)
-                        facts[key] += 1
+                        facts[key].append((file, f.name))
             names = [p for p in f.parameters if ":" in p]
             for size in (3, 4, 5, 6, 7):
                 for at in range(len(names) - size + 1):
-                    lists[tuple(" ".join(n.replace("mut ", "").split()) for n in names[at:at + size])] += 1
-    for (crate, part), n in sorted(facts.items()):
-        if n >= 3:
-            yield f"{crate}: {n} times requires {part}"
-    longest = {k: n for k, n in lists.items() if n >= 3}
-    for k, n in sorted(longest.items()):
-        bigger = any(len(o) > len(k) and m >= n and any(o[i:i + len(k)] == k for i in range(len(o))) for o, m in longest.items())
+                    lists[tuple(" ".join(n.replace("mut ", "").split()) for n in names[at:at + size])].append((file, f.name))
+    for (crate, part), items in sorted(facts.items()):
+        if len(items) >= 3:
+            yield f"{crate}: {len(items)} times requires {part}", items
+    longest = {k: items for k, items in lists.items() if len(items) >= 3}
+    for k, items in sorted(longest.items()):
+        bigger = any(len(o) > len(k) and len(m) >= len(items) and any(o[i:i + len(k)] == k for i in range(len(o))) for o, m in longest.items())
         if not bigger:
-            yield f"{n} functions take {', '.join(k)}"
+            yield f"{len(items)} functions take {', '.join(k)}", items
 
 
 def buffers(files):
@@ -205,14 +206,14 @@ def buffers(files):
             arrays = [f for f in fields if re.search(r":\s*\[", f)]
             sizes = [f for f in fields if re.match(r"(size|count|len|at|left|bits_used)\s*:", f)]
             if arrays and sizes:
-                yield f"{file} struct {name}: length beside"
+                yield f"{file} struct {name}: length beside", [(file, name)]
             if len(arrays) > 1:
-                yield f"{file} struct {name}: {len(arrays)} arrays"
+                yield f"{file} struct {name}: {len(arrays)} arrays", [(file, name)]
         for f in functions(file, text):
             if sum(bool(re.search(r":\s*&mut \[\w+; \d+\]", p)) for p in f.parameters) > 1:
-                yield f"{f.where()}: arrays side by side"
+                yield f"{f.where()}: arrays side by side", [(file, f.name)]
             elif re.search(r"\[\.\.\w+\]", f.body):
-                yield f"{f.where()}: a part of a buffer"
+                yield f"{f.where()}: a part of a buffer", [(file, f.name)]
 
 
 def switches(files):
@@ -221,9 +222,9 @@ def switches(files):
             flags = [p.split(":")[0].strip() for p in f.parameters if re.search(r":\s*bool$", p)]
             for flag in flags:
                 if re.search(rf"\bif {flag} \{{[^}}]*\([^}}]*\}}", f.body):
-                    yield f"{f.where()}: {flag}"
+                    yield f"{f.where()}: {flag}", [(file, f.name)]
             if len(re.findall(r"\b\d+ => [\w:]+\(", f.body)) > 3:
-                yield f"{f.where()}: a table of functions"
+                yield f"{f.where()}: a table of functions", [(file, f.name)]
 
 
 POINTS = [
@@ -237,15 +238,50 @@ POINTS = [
 ]
 
 
+def reasons(text):
+    """By the name of a function, struct or enum: the reasons beside it; by the empty name those at the file's head."""
+    found = collections.defaultdict(list)
+    lines = text.split("\n")
+    above, inside, head = [], "", True
+    for line in lines:
+        bare_line = line.strip()
+        reason = re.match(r"// Kept: (.*)", bare_line)
+        item = re.match(r"(?:pub(?:\(crate\))? )?(?:const )?(?:fn|struct|enum) (\w+)", bare_line)
+        if head and not bare_line.startswith("//"):
+            found[""] += above
+            head, above = False, []
+        if reason:
+            above.append(reason.group(1))
+            if inside:
+                found[inside].append(reason.group(1))
+        elif item:
+            inside = item.group(1)
+            found[inside] += above
+            above = []
+        elif bare_line and not bare_line.startswith(("//", "#[")):
+            above = []
+        if line == "}" or line == "    }":
+            inside = ""
+    return found
+
+
 def main():
-    arguments = [a for a in sys.argv[1:] if a != "--list"]
-    files = [(name, bare(text)) for name, text in sources(arguments[0] if arguments else None)]
+    arguments = [a for a in sys.argv[1:] if not a.startswith("--")]
+    raw = list(sources(arguments[0] if arguments else None))
+    files = [(name, bare(text)) for name, text in raw]
+    kept = {name: reasons(text) for name, text in raw}
     for title, rule in POINTS:
-        places = list(dict.fromkeys(rule(files)))
-        print(f"{title}: {len(places)}")
-        if "--list" in sys.argv:
-            for p in places:
-                print(f"    {p}")
+        places = dict(rule(files))
+        why = {}
+        for place, items in places.items():
+            beside = [r for file, name in items for r in kept[file][name]]
+            if title.startswith("5"):
+                beside += [r for file, name in items for r in kept[file][""]]
+            why[place] = list(dict.fromkeys(beside))
+        without = [p for p in places if not why[p]]
+        print(f"{title}: {len(places)}, kept {len(places) - len(without)}, open {len(without)}")
+        for p in places if "--list" in sys.argv else without if "--open" in sys.argv else []:
+            print(f"    {p}" + "".join(f"\n        Kept: {r}" for r in why[p]))
 
 
 if __name__ == "__main__":

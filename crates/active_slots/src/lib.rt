@@ -8,7 +8,6 @@ ghost use Rattle.side_info.specs.SideInfo.{active_slots};
 ghost use Rattle.active_slots.specs.Active.{listed};
 
 use layout::Layout;
-
 pub use slots::ActiveSlots;
 
 // The active slots, in the order in which scfsi and scalefactors travel. They are gathered without a branch that the steps decide: a slot is laid down

@@ -2,6 +2,7 @@
 ghost use Rattle.active_slots.specs.Slots.{SlotsIn};
 
 // The active slots: the first `count` entries.
+// Kept: an array and a count in place of a Vec, since the library allocates nothing.
 #[derive(Clone, Copy)]
 pub struct ActiveSlots {
     pub(crate) slots: [u8; 64],

@@ -13,17 +13,18 @@ use layout::Layout;
 #[derive(Clone, Copy)]
 pub enum Scfsi {
     // Three scalefactors, one for each granule.
-    ThreePerGranule,
+    ThreePerGranule = 0,
     // Two: the first for granules 0 and 1, the second for granule 2.
-    Share01Then2,
+    Share01Then2 = 1,
     // One for all three granules.
-    ShareAll,
+    ShareAll = 2,
     // Two: the first for granule 0, the second for granules 1 and 2.
-    Share0Then12,
+    Share0Then12 = 3,
 }
 
 impl Scfsi {
     // The scfsi of a two-bit code (2.4.3.3.2); a number above 3 is taken as 3.
+    // Kept: `From<u8>` would hide that a number above 3 has an answer too, and `TryFrom` would refuse what this cannot.
     pub fn of_code(code: u8) -> Scfsi
         ensures { result ≡ of_code code }
     {
@@ -35,19 +36,15 @@ impl Scfsi {
         }
     }
 
-    // The two-bit code, as the standard lists it: a cast would leave it to the order of the variants.
+    // The two-bit code (2.4.2.6).
     pub fn code(self) -> u8
         ensures { CodeIs self result }
     {
-        match self {
-            Scfsi::ThreePerGranule => 0,
-            Scfsi::Share01Then2 => 1,
-            Scfsi::ShareAll => 2,
-            Scfsi::Share0Then12 => 3,
-        }
+        self as u8
     }
 
     // How many scalefactor indices are transmitted.
+    // Kept: one figure for each case, as in the figures of modes and tables; these are the figures themselves, and no form holds them in fewer lines.
     pub fn parts_on_wire(self) -> usize
         ensures { PartsAre self result }
     {
@@ -61,6 +58,7 @@ impl Scfsi {
 }
 
 // The side information of one frame.
+// Kept: an array for each section of 2.4.1.6, since C hands over and takes each by itself, and nothing may be allocated.
 #[derive(Clone, Copy)]
 pub struct AudioData {
     pub table: BitAllocTable,
