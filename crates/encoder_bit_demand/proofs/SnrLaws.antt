@@ -7,7 +7,6 @@ use mathlib.Core.Logic.{⊎_elim}
 use mathlib.Core.List.{List, [], ◌∷◌, map}
 use Prim.Native.Nat.{ℕ, zero, suc, ◌-◌, ◌≤◌, ◌<◌}
 use native.Mathlib.Nat.{eq-or-lt_of_le}
-use native.Mathlib.Omega.{arith}
 use types.Run.{OneOf}
 use lib.Count.{count_leading_zeros}
 use lib.ListN.{get_or}
@@ -18,10 +17,10 @@ use lib.IntN.{pos}
 use borrow.Author.Tests.{lt-ltb, ne_eqb, eqb-true}
 use Rattle.tables.specs.Search.{find, one_of}
 use Rattle.tables.proofs.Rule.{first, second, all}
-use Rattle.tables.proofs.Search.{there, past, find_passes, none_passes}
+use Rattle.tables.proofs.Search.{there, there_only, at_place, find_passes, none_passes}
 use Rattle.tables.proofs.Keys.{Each, at_key, no_key}
 use Rattle.ieee_order.proofs.Order.{finite_number, float_lt_le, float_refl}
-use Rattle.encoder_bit_demand.specs.Snr.{SnrRow, table_c5, decibels, row_number, or_past, snr_of}
+use Rattle.encoder_bit_demand.specs.Snr.{SnrRow, table_c5, decibels, row_number, snr_of}
 
 -- what a found ratio was found in
 of_row : (o : Option SnrRow) (x : Float) → option_map (λ r. r.db) o ≡ Some x → (r : SnrRow) × (o ≡ Some r) × (r.db ≡ x)
@@ -99,43 +98,40 @@ unfolding keyed one_of table_c5
 computed_keys = tt
 
 pub no_row : (steps : ℕ) → (steps ≡ 0 → ⊥) → (steps ≡ 3 → ⊥) → (steps ≡ 5 → ⊥) → (steps ≡ 7 → ⊥) → (steps ≡ 9 → ⊥)
-    → (OneOf long_keys steps → ⊥) → 18 ≡ or_past (row_number steps)
+    → (OneOf long_keys steps → ⊥) → None ≡ row_number steps
 unfolding row_number keyed one_of
 no_row steps a b c d e f =
     let h : one_of keys steps ≡ false =
     rw (ne_eqb steps 0 a, ne_eqb steps 3 b, ne_eqb steps 5 c, ne_eqb steps 7 d, ne_eqb steps 9 e) (no_key long_keys steps f) in
-    sym (ap or_past (none_passes (λ r. eqb r.steps steps) keyed table_c5 computed_keys
-    (λ r t. ne_eqb r.steps steps (λ e. subst T h (subst (λ (n : ℕ). T (one_of keys n)) e t)))))
+    sym (none_passes (λ r. eqb r.steps steps) keyed table_c5 computed_keys
+    (λ r t. ne_eqb r.steps steps (λ e. subst T h (subst (λ (n : ℕ). T (one_of keys n)) e t))))
 
 -- ---- the row of a number of steps, and what stands there
 
-computed_rows : Each (λ n. 33 - count_leading_zeros 32 n ≡ or_past (row_number n)) long_keys
+computed_rows : Each (λ n. Some (33 - count_leading_zeros 32 n) ≡ row_number n) long_keys
 unfolding row_number count_leading_zeros
 computed_rows = (refl, (refl, (refl, (refl, (refl, (refl, (refl, (refl, (refl, (refl, (refl, (refl, (refl, tt)))))))))))))
 
-pub long_row : (steps : ℕ) → OneOf long_keys steps → 33 - count_leading_zeros 32 steps ≡ or_past (row_number steps)
-long_row steps h = at_key (λ n. 33 - count_leading_zeros 32 n ≡ or_past (row_number n)) long_keys steps computed_rows h
+pub long_row : (steps : ℕ) → OneOf long_keys steps → Some (33 - count_leading_zeros 32 steps) ≡ row_number steps
+long_row steps h = at_key (λ n. Some (33 - count_leading_zeros 32 n) ≡ row_number n) long_keys steps computed_rows h
 
 column_at : (f : SnrRow → Float) (rs : List SnrRow) (i : ℕ) → option_map f (slice_get rs i) ≡ slice_get (map f rs) i
 column_at f [] i = refl
 column_at f (r ∷ rs) zero = refl
 column_at f (r ∷ rs) (suc i) = column_at f rs i
 
-module _ (steps row : ℕ) (at : row ≡ or_past (row_number steps)) where
-  pub snr_there : (table : List Float) → row < 18 → table ≡ decibels → Some (get_or table row nan) ≡ snr_of steps
-  unfolding row_number snr_of decibels
-  snr_there table h e = go (row_number steps) refl
-    where
-      go : (o : Option ℕ) → row_number steps ≡ o → Some (get_or table row nan) ≡ snr_of steps
-      go None p = let z = at ∙ ap or_past p in absurd (omega arith)
-      go (Some i) p =
-          let z : row ≡ i = at ∙ ap or_past p in
-          rw (e, z, p) (sym (column_at (λ r. r.db) table_c5 i ∙ there decibels i nan (omega arith)))
+module _ (steps row : ℕ) (at : Some row ≡ row_number steps) where
+  pub row_in : row < 18
+  unfolding row_number
+  row_in =
+      let found = at_place (λ r. eqb r.steps steps) table_c5 row (sym at) in
+      (there_only table_c5 row found.0 found.0 found.1).0
 
-  pub snr_missing : 18 ≤ row → None ≡ snr_of steps
-  unfolding row_number snr_of
-  snr_missing h = go (row_number steps) refl
-    where
-      go : (o : Option ℕ) → row_number steps ≡ o → None ≡ snr_of steps
-      go None p = rw p
-      go (Some i) p = let z : row ≡ i = at ∙ ap or_past p in rw (p, past table_c5 i (omega arith))
+  pub snr_there : (table : List Float) → table ≡ decibels → Some (get_or table row nan) ≡ snr_of steps
+  unfolding row_number snr_of decibels
+  snr_there table e =
+      rw (e, ← at) (sym (column_at (λ r. r.db) table_c5 row ∙ there decibels row nan row_in))
+
+pub snr_missing : (steps : ℕ) → None ≡ row_number steps → None ≡ snr_of steps
+unfolding row_number snr_of
+snr_missing steps at = rw (← at)

@@ -46,11 +46,6 @@ unfoldable pub row_number : ℕ → Option ℕ
 unfolding table_c5
 row_number steps = place (λ r. eqb r.steps steps) table_c5
 
--- what the code has for no row: the number past the last
-abbrev pub or_past : Option ℕ → ℕ
-or_past None = 18
-or_past (Some i) = i
-
 -- the ratio of a number of steps
 unfoldable pub snr_of : ℕ → Option Float
 unfolding table_c5

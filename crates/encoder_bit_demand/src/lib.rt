@@ -5,7 +5,7 @@
 ghost use Rattle.std.specs.Prelude.{◌≡◌, ◌≤◌, ◌<◌, length};
 ghost use Rattle.std.specs.Float.Ieee.{le};
 ghost use Rattle.bitalloc.specs.Tables.{sblimit_of};
-ghost use Rattle.encoder_bit_demand.specs.Snr.{decibels, row_number, or_past, snr_of, snr};
+ghost use Rattle.encoder_bit_demand.specs.Snr.{decibels, row_number, snr_of, snr};
 ghost use Rattle.encoder_bit_demand.specs.Demand.{smrs_of, largest_smr, needed_steps, FirstStepIs, DemandIs};
 ghost use Rattle.encoder_bit_demand.specs.OnTheWay.{NeededIs, FieldDemandIs, LayoutDemandIs};
 
@@ -27,20 +27,20 @@ fn snr_table() -> &'static [f64; 18]
     &SNR_DB
 }
 
-// The row of the table that has a number of steps; 18, past the last, where none has.
-fn snr_row(nb_steps: u32) -> usize
-    ensures { result ≡ or_past (row_number nb_steps) }
+// The row of the table that has a number of steps.
+fn snr_row(nb_steps: u32) -> Option<usize>
+    ensures { result ≡ row_number nb_steps }
 {
     match nb_steps {
-        0 => 0,
-        3 => 1,
-        5 => 2,
-        7 => 3,
-        9 => 4,
+        0 => Some(0),
+        3 => Some(1),
+        5 => Some(2),
+        7 => Some(3),
+        9 => Some(4),
         15 | 31 | 63 | 127 | 255 | 511 | 1023 | 2047 | 4095 | 8191 | 16383 | 32767 | 65535 => {
-            (33 - u32::leading_zeros(nb_steps)) as usize
+            Some((33 - u32::leading_zeros(nb_steps)) as usize)
         }
-        _ => 18,
+        _ => None,
     }
 }
 
@@ -48,12 +48,8 @@ fn snr_row(nb_steps: u32) -> usize
 pub fn snr_db(nb_steps: u32) -> Option<f64>
     ensures { result ≡ snr_of nb_steps }
 {
-    let row = snr_row(nb_steps);
-    if row < 18 {
-        Some(snr_table()[row])
-    } else {
-        None
-    }
+    let row = snr_row(nb_steps)?;
+    Some(snr_table()[row])
 }
 
 // The data bits with which every allocation field has a mask-to-noise ratio of at least 0 dB or stands at its top place (Annex G.1, required

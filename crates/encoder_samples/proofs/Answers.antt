@@ -6,7 +6,7 @@ use Rattle.quantization.specs.declared.QuantClass.{QuantClass}
 use Rattle.quantization.specs.Classes.{class_of, ClassRule}
 use Rattle.encoder_samples.specs.declared.Triplet.{Triplet}
 use Rattle.encoder_samples.specs.Samples.{quantized, triplet}
-use Rattle.encoder_samples.specs.Entries.{sample_code, triplet_answer, no_triplet, SampleCodeIs, TripletIs}
+use Rattle.encoder_samples.specs.Entries.{sample_code, triplet_answer, SampleCodeIs, TripletIs}
 use Rattle.encoder_samples.proofs.Codes.{Held, code_below, three_below, triplet_held}
 
 pub no_code : (steps : ℕ) (sample : Float) → class_of steps ≡ None → SampleCodeIs steps sample None

@@ -2,7 +2,7 @@
 // three consecutive samples to their codewords.
 #![tactic(auto)]
 
-ghost use Rattle.std.specs.Prelude.{◌≡◌, ◌+◌, ◌-◌, ◌*◌, ◌%◌, ◌^◌, min};
+ghost use Rattle.std.specs.Prelude.{◌≡◌, ◌+◌, ◌-◌, ◌*◌, ◌%◌, ◌^◌};
 ghost use Rattle.encoder_samples.specs.Samples.{clamped, code_to, last_code, quantized, combined, triplet, NearestIs};
 ghost use Rattle.encoder_samples.specs.Entries.{SampleCodeIs, TripletIs};
 ghost use Rattle.encoder_samples.specs.Half.{HalfIs};
@@ -48,18 +48,13 @@ fn code_to(last: u32, class: QuantClass, s_double_prime: f64) -> u32
 fn clamp(last: u32, half: u32, value: f64) -> u32
     ensures { result ≡ clamped last half value }
 {
-    let middle = half as u64;
-    if value < 0.0 {
-        let below = nearest_whole(-value);
-        if below < middle {
-            capped(middle - below, last)
-        } else {
-            0
-        }
+    let middle = u64::from(half);
+    let code = if value < 0.0 {
+        middle.saturating_sub(nearest_whole(-value))
     } else {
-        let above = nearest_whole(value);
-        capped(middle + above, last)
-    }
+        middle + nearest_whole(value)
+    };
+    code.min(u64::from(last)) as u32
 }
 
 // The whole number nearest to `x`, halves up, at most 2^32; 0 where `x` is negative or NaN.
@@ -77,13 +72,6 @@ pub fn nearest_whole(x: f64) -> u64
     } else {
         0
     }
-}
-
-// A code, or the last where it would be past that.
-fn capped(code: u64, last: u32) -> u32
-    ensures { result ≡ min code last }
-{
-    code.min(u64::from(last)) as u32
 }
 
 // Three samples' codewords: how many, the bits of each, and the codewords, with 0 in the places that are not used.

@@ -10,28 +10,22 @@ ghost use Rattle.encoder_scfsi.specs.Select.{CountIs, SelectionIs};
 
 use audio_data::Scfsi;
 
-// The class of a difference, an index minus the next granule's.
+// The class of a difference, an index minus the next granule's, and its number in Table C.4.
 #[derive(Clone, Copy)]
 pub enum DifferenceClass {
-    Class1,
-    Class2,
-    Class3,
-    Class4,
-    Class5,
+    Class1 = 1,
+    Class2 = 2,
+    Class3 = 3,
+    Class4 = 4,
+    Class5 = 5,
 }
 
 impl DifferenceClass {
-    // The class's number in Table C.4, as it is printed there: a cast would leave it to the order of the variants.
+    // The class's number in Table C.4.
     pub fn as_index(self) -> u8
         ensures { NumberIs self result }
     {
-        match self {
-            DifferenceClass::Class1 => 1,
-            DifferenceClass::Class2 => 2,
-            DifferenceClass::Class3 => 3,
-            DifferenceClass::Class4 => 4,
-            DifferenceClass::Class5 => 5,
-        }
+        self as u8
     }
 }
 

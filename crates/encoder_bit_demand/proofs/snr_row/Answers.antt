@@ -1,6 +1,7 @@
 -- `encoder_bit_demand::snr_row` meets its contract: antt finds the row of each key, and no row has other steps.
 use native.Mathlib.Omega.{arith}
 use lib.Count.{leading_le}
+use borrow.Author.Rules.{rules}
 use Rattle.encoder_bit_demand.specs.Snr.{row_number}
 use Rattle.encoder_bit_demand.proofs.SnrLaws.{long_row, no_row}
 use Rattle.encoder_bit_demand.proofs.snr_row.Goals as goal
@@ -33,5 +34,4 @@ returns-in-15 c = long_row _ c.in-15.is
 
 pub returns-in_default : goal.returns-in_default
 returns-in_default c =
-    let r = c.in_default.in_default-own.rest in
-    no_row _ r.0.0.0.0.0.1 r.0.0.0.0.1 r.0.0.0.1 r.0.0.1 r.0.1 r.1
+    no_row _ (search rules) (search rules) (search rules) (search rules) (search rules) (search rules)

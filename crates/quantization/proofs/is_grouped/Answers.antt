@@ -2,6 +2,7 @@
 use mathlib.Core.Path.{◌≡◌, refl}
 use mathlib.Core.Bool.{true}
 use mathlib.Core.List.{[], ◌∷◌}
+use borrow.Author.Rules.{rules}
 use Rattle.tables.proofs.Keys.{at_key, no_key}
 use Rattle.quantization.specs.Classes.{grouped}
 use Rattle.quantization.proofs.ClassLaws.{not_grouped}
@@ -12,4 +13,4 @@ unfolding grouped
 returns-in-3 c = at_key (λ n. true ≡ grouped n) (3 ∷ 5 ∷ 9 ∷ []) _ (refl, (refl, (refl, tt))) c.in-3.is
 
 pub returns-in_default : goal.returns-in_default
-returns-in_default c = not_grouped _ (no_key (3 ∷ 5 ∷ 9 ∷ []) _ c.in_default.in_default-own.rest.1)
+returns-in_default c = not_grouped _ (no_key (3 ∷ 5 ∷ 9 ∷ []) _ (search rules))

@@ -1,6 +1,7 @@
 -- `quantization::sample_bits_for` meets its contract: antt computes the bits at the keys, and no other steps have a class.
 use mathlib.Core.Path.{refl}
 use lib.Count.{leading_le}
+use borrow.Author.Rules.{rules}
 use Rattle.quantization.specs.Classes.{sample_bits}
 use Rattle.quantization.proofs.ClassLaws.{bits_are, single_bits, no_bits}
 use Rattle.quantization.proofs.sample_bits_for.Goals as goal
@@ -25,5 +26,4 @@ returns-in-7 c = single_bits _ c.in-7.is
 
 pub returns-in_default : goal.returns-in_default
 returns-in_default c =
-    let r = c.in_default.in_default-own.rest in
-    no_bits _ r.0.0.0.1 r.0.0.1 r.0.1 r.1
+    no_bits _ (search rules) (search rules) (search rules) (search rules)

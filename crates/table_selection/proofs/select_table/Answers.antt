@@ -1,6 +1,6 @@
 -- `table_selection::select_table` meets its contract: each of the ways to a table is the definition's.
 use Rattle.std.specs.Prelude.{None}
-use mathlib.Core.Path.{sym, ap, ◌∙◌}
+use mathlib.Core.Path.{sym, ◌∙◌}
 use Rattle.table_selection.proofs.SelectLaws.{of_lsf, of_free, of_rate, no_kbps}
 use Rattle.table_selection.proofs.select_table.Goals as goal
 

@@ -1,6 +1,7 @@
 -- `table_selection::table_for` meets its contract: at each key of an arm antt computes the headings' table, and off the keys no heading has the rate.
 use mathlib.Core.Path.{refl}
 use mathlib.Core.List.{◌++◌}
+use borrow.Author.Rules.{rules}
 use Rattle.tables.specs.Search.{one_of}
 use Rattle.tables.proofs.Keys.{no_key, no_key_either}
 use Rattle.bitalloc.specs.declared.BitAllocTable.TheVariants.{B2a, B2b, B2c, B2d}
@@ -20,7 +21,7 @@ pub returns-in_default-per_channel : goal.returns-in_default-per_channel
 unfolding covers headings one_of
 returns-in_default-per_channel c =
     let n = c.args.per_channel in
-    off_keys 48_000 _ n c.in-48000.is tt (no_key low n c.in_default-per_channel.in_default-per_channel-own.rest.0.1) (no_key (middle ++ high) n c.in_default-per_channel.in_default-per_channel-own.rest.1)
+    off_keys 48_000 _ n c.in-48000.is tt (no_key low n (search rules)) (no_key (middle ++ high) n (search rules))
 
 pub returns-in-32-per_channel : goal.returns-in-32-per_channel
 unfolding table_at one_of
@@ -38,8 +39,8 @@ pub returns-in_default-per_channel-2 : goal.returns-in_default-per_channel-2
 unfolding covers headings one_of
 returns-in_default-per_channel-2 c =
     let n = c.args.per_channel in
-    off_keys 44_100 _ n c.in-44100.is tt (no_key low n c.in_default-per_channel-2.in_default-per_channel-2-own.rest.0.0.1)
-    (no_key_either middle high n (no_key middle n c.in_default-per_channel-2.in_default-per_channel-2-own.rest.0.1) (no_key high n c.in_default-per_channel-2.in_default-per_channel-2-own.rest.1))
+    off_keys 44_100 _ n c.in-44100.is tt (no_key low n (search rules))
+    (no_key_either middle high n (no_key middle n (search rules)) (no_key high n (search rules)))
 
 pub returns-in-32-per_channel-2 : goal.returns-in-32-per_channel-2
 unfolding table_at one_of
@@ -57,8 +58,8 @@ pub returns-in_default-per_channel-3 : goal.returns-in_default-per_channel-3
 unfolding covers headings one_of
 returns-in_default-per_channel-3 c =
     let n = c.args.per_channel in
-    off_keys 32_000 _ n c.in-32000.is tt (no_key low n c.in_default-per_channel-3.in_default-per_channel-3-own.rest.0.0.1)
-    (no_key_either middle high n (no_key middle n c.in_default-per_channel-3.in_default-per_channel-3-own.rest.0.1) (no_key high n c.in_default-per_channel-3.in_default-per_channel-3-own.rest.1))
+    off_keys 32_000 _ n c.in-32000.is tt (no_key low n (search rules))
+    (no_key_either middle high n (no_key middle n (search rules)) (no_key high n (search rules)))
 
 pub returns-in_default : goal.returns-in_default
-returns-in_default c = off_three _ _ c.in_default.in_default-own.rest.0.0.1 c.in_default.in_default-own.rest.0.1 c.in_default.in_default-own.rest.1
+returns-in_default c = off_three _ _ (search rules) (search rules) (search rules)
