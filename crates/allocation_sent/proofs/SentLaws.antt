@@ -123,8 +123,8 @@ plain_scfsi q smr a e zero =
     ap (λ (v : AllocationAnswer). v.audio.scfsi) e
     ∙ ap (λ (n : ℕ). (allocation_in (budget_of q).budget smr q.banc n).audio.scfsi) (sym (number_is q smr) ∙ sym (ap (λ (v : AllocationAnswer). v.number) e) ∙ zero)
 
-all_three : (scfsi : List Scfsi) → scfsi ≡ replicate 64 idle_scfsi → (slot : ℕ) → (get_or scfsi slot idle_scfsi) ≡ ThreePerGranule
-all_three scfsi e slot = ap (λ (xs : List Scfsi). (get_or xs slot idle_scfsi)) e ∙ ap (λ (v : Scfsi). v.scfsi) (blank 64 idle_scfsi slot)
+all_three : (scfsi : List Scfsi) → scfsi ≡ replicate 64 idle_scfsi → (slot : ℕ) → get_or scfsi slot idle_scfsi ≡ ThreePerGranule
+all_three scfsi e slot = ap (λ (xs : List Scfsi). get_or xs slot idle_scfsi) e ∙ blank 64 idle_scfsi slot
 
 -- no steps where no field serves the slot
 carried_steps : (q : Request) (smr : List (List Float)) (a : AllocationAnswer) → Accepted q smr a → (slot : ℕ) → slot < 64

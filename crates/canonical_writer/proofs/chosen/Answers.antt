@@ -1,7 +1,6 @@
 -- `canonical_writer::chosen` meets its contract. The loop's invariant: the slots so far have their scfsi.
-use mathlib.Core.Path.{refl, ap}
+use mathlib.Core.Path.{refl}
 use native.Mathlib.Omega.{arith}
-use Rattle.audio_data.specs.declared.Scfsi.{Scfsi}
 use Rattle.canonical_writer.proofs.ChosenLaws.{one_chosen, all_chosen}
 use Rattle.canonical_writer.proofs.chosen.Goals as goal
 
