@@ -1,6 +1,6 @@
 -- What the result of the canonical writer stands for.
-use Rattle.std.specs.Prelude.{ℕ, List, [], Result, Ok, Err}
-use Rattle.record_checker.specs.Errors.{check_in}
+use Rattle.std.specs.Prelude.{ℕ, [], Result, Ok, Err}
+use Rattle.record_checker.specs.Errors.{error_in}
 use Rattle.side_info_writer.specs.declared.WrittenSideInfo.{WrittenSideInfo}
 use Rattle.side_info_writer.specs.Written as writer
 use Rattle.side_info_writer.specs.Written.{WrittenAnswer, written}
@@ -9,7 +9,7 @@ use Rattle.canonical_writer.specs.declared.CanonicalError.TheVariants.{Check, Wr
 
 -- the number of the check's refusal, or of the writer's
 abbrev pub error_number : CanonicalError → ℕ
-error_number (Check e) = (check_in {X = Unit {0}} (Err e)).number
+error_number (Check e) = (error_in e).number
 error_number (Write e) = writer.error_number e
 
 abbrev pub canonical_in : Result WrittenSideInfo CanonicalError → WrittenAnswer

@@ -1,9 +1,8 @@
 // The writer that gives a frame's side information one form: each active slot is sent with the scfsi that needs the fewest scalefactor indices.
 #![tactic(auto)]
 
-ghost use Rattle.std.specs.Prelude.{◌≡◌, []};
+ghost use Rattle.std.specs.Prelude.{◌≡◌};
 ghost use Rattle.audio_data.specs.Scfsi.{three};
-ghost use Rattle.side_info.specs.SideInfo.{side_info};
 ghost use Rattle.canonical_form.specs.Fewest.{FewestIs, chosen};
 ghost use Rattle.canonical_form.specs.Canonical.{CanonicalIs};
 ghost use Rattle.canonical_writer.specs.declared.CanonicalError.TheVariants.{Check, Write};
@@ -16,6 +15,7 @@ use side_info::SideInfo;
 use side_info_writer::{WriteError, WrittenSideInfo};
 
 // Why a record has no canonical form.
+// Kept: both cases are causes, and neither is a missing value: what is answered is std's `Result`, with this as its error.
 #[derive(Clone, Copy, Debug, PartialEq, Eq)]
 pub enum CanonicalError {
     // It does not pass `check_record`.
@@ -26,6 +26,7 @@ pub enum CanonicalError {
 
 impl CanonicalError {
     // The answer's number.
+    // Kept: C is answered by numbers, and each case takes its number from what it holds.
     pub fn number(self) -> u32
         ensures { result ≡ error_number self }
     {
@@ -39,16 +40,16 @@ impl CanonicalError {
 impl From<RecordError> for CanonicalError {
     ghost from_gives = { λ error refusal. refusal ≡ Check error };
 
-    fn from(error: RecordError) -> CanonicalError {
-        CanonicalError::Check(error)
+    fn from(refusal: RecordError) -> CanonicalError {
+        CanonicalError::Check(refusal)
     }
 }
 
 impl From<WriteError> for CanonicalError {
     ghost from_gives = { λ error refusal. refusal ≡ Write error };
 
-    fn from(error: WriteError) -> CanonicalError {
-        CanonicalError::Write(error)
+    fn from(refusal: WriteError) -> CanonicalError {
+        CanonicalError::Write(refusal)
     }
 }
 
@@ -62,20 +63,21 @@ pub fn write_side_info_canonical(
 {
     record_checker::check_record(header, info)?;
     let fewest = SideInfo {
-        scfsi: chosen(&info.scalefactors),
+        scfsi: chosen(info),
         ..*info
     };
     Ok(side_info_writer::write_side_info(header, &fewest)?)
 }
 
 // The scfsi of every slot, from its three indices.
-fn chosen(scalefactors: &[u8; 192]) -> [Scfsi; 64]
-    ensures { result ≡ chosen (side_info [] [] scalefactors.now) }
+fn chosen(info: &SideInfo) -> [Scfsi; 64]
+    ensures { result ≡ chosen info.now }
 {
+    let indices = &info.scalefactors;
     let mut slots = [Scfsi::ThreePerGranule; 64];
     for slot in 0..64 {
         let at = 3 * slot;
-        slots[slot] = fewest_scfsi(scalefactors[at], scalefactors[at + 1], scalefactors[at + 2]);
+        slots[slot] = fewest_scfsi(indices[at], indices[at + 1], indices[at + 2]);
     }
     slots
 }

@@ -67,8 +67,8 @@ abbrev as_slot : ℕ → List Bool → Taken Scfsi
 as_slot code = got (of_code code)
 
 pub scfsi_got : (slot : ℕ) (bits rest : List Bool) (code : ℕ) (s : Scfsi) → number_taken 2 bits ≡ got code rest → s ≡ of_code code
-    → scfsi_taken slot bits ≡ got (s) rest
-scfsi_got slot bits rest code s e v = then_got as_slot (number_taken 2 bits) code rest e ∙ ap (λ (t : Scfsi). got (t) rest) (sym v)
+    → scfsi_taken slot bits ≡ got s rest
+scfsi_got slot bits rest code s e v = then_got as_slot (number_taken 2 bits) code rest e ∙ ap (λ (t : Scfsi). got t rest) (sym v)
 
 pub scfsi_refused : (slot : ℕ) (bits : List Bool) (n : ℕ) → number_taken 2 bits ≡ refused n → scfsi_taken slot bits ≡ refused n
 scfsi_refused slot bits n e = then_refused as_slot (number_taken 2 bits) n e

@@ -1,10 +1,10 @@
 // The reader of a frame's side information (ISO/IEC 11172-3 2.4.1.6): its allocation fields, scfsi and scalefactors from bits.
 #![tactic(auto)]
 
-ghost use Rattle.std.specs.Prelude.{◌≡◌, ◌≤◌, ◌<◌, length, MatchResult};
+ghost use Rattle.std.specs.Prelude.{◌≡◌, ◌≤◌, ◌<◌, length};
 ghost use Rattle.active_slots.specs.Active.{listed};
 ghost use Rattle.side_info_reading.specs.Taken.{laid};
-ghost use Rattle.side_info_reading.specs.Reading.{in_slots, in_granules, nothing, allocation_taken, scfsis_taken, scalefactors_taken, index_taken, three_taken};
+ghost use Rattle.side_info_reading.specs.Reading.{in_slots, in_granules, allocation_taken, scfsis_taken, scalefactors_taken, index_taken, three_taken};
 ghost use Rattle.side_info_reading.specs.Read.{ReadIs};
 ghost use Rattle.side_info_reader.specs.declared.ReadError.TheVariants.{Header};
 ghost use Rattle.side_info_reader.specs.Errors.{error_number, taken_by, read_in};
@@ -42,6 +42,7 @@ pub enum ReadError {
 
 impl ReadError {
     // The answer's number.
+    // Kept: C is answered by these numbers; the case of a header takes its number from what it holds, so that the cases have no discriminants.
     pub fn number(self) -> u32
         ensures { result ≡ error_number self }
     {
@@ -54,10 +55,10 @@ impl ReadError {
 }
 
 impl From<BitAllocError> for ReadError {
-    ghost from_gives = { λ error refusal. refusal ≡ Header error };
+    ghost from_gives = { λ refusal error. error ≡ Header refusal };
 
-    fn from(error: BitAllocError) -> ReadError {
-        ReadError::Header(error)
+    fn from(refusal: BitAllocError) -> ReadError {
+        ReadError::Header(refusal)
     }
 }
 
@@ -100,19 +101,12 @@ fn read_allocation(layout: Layout, reader: &mut BitReader) -> Result<[u32; 64], 
     Ok(nb_steps)
 }
 
-// The scfsi of slots that send none.
-fn idle() -> [Scfsi; 64]
-    ensures { result ≡ nothing.scfsi }
-{
-    [Scfsi::ThreePerGranule; 64]
-}
-
-// The scfsi of the active slots, two bits each.
+// The scfsi of the active slots, two bits each; that of slots that send none is `ThreePerGranule`.
 fn read_scfsi(active: ActiveSlots, reader: &mut BitReader) -> Result<[Scfsi; 64], ReadError>
     ensures taken { taken_by result reader.new.ahead ≡ scfsis_taken (listed active) reader.old.ahead }
     ensures all { reader.new.all ≡ reader.old.all }
 {
-    let mut scfsi = idle();
+    let mut scfsi = [Scfsi::ThreePerGranule; 64];
     for slot in active.as_slice() {
         let code = reader.take(2)?;
         scfsi[usize::from(*slot)] = Scfsi::of_code(code as u8);

@@ -14,6 +14,7 @@ use Rattle.audio_data.specs.declared.Scfsi.{Scfsi}
 use Rattle.audio_data.specs.declared.Scfsi.TheVariants.{ThreePerGranule, Share01Then2, ShareAll, Share0Then12}
 use Rattle.audio_data.specs.Scfsi.{parts_of, Three, sent}
 use Rattle.bit_string.specs.Bits.{bits_of}
+use Rattle.bit_string.proofs.BitLaws.{length_bits}
 use Rattle.side_info.specs.declared.SideInfo.{SideInfo}
 use Rattle.side_info.specs.SideInfo.{tabled, allocation_field_bits}
 use Rattle.side_info.proofs.CountLaws.{fields_count}
@@ -46,6 +47,16 @@ by_scfsi ThreePerGranule t = ap (λ (bs : List Bool). bits_of 6 t.first ++ (bits
 by_scfsi Share01Then2 t = ap (λ (bs : List Bool). bits_of 6 t.first ++ bs) (append-nil (bits_of 6 t.third))
 by_scfsi ShareAll t = refl
 by_scfsi Share0Then12 t = ap (λ (bs : List Bool). bits_of 6 t.first ++ bs) (append-nil (bits_of 6 t.third))
+
+-- an index that is sent, and one that is not
+pub sent_long : (b : Bool) (i : ℕ) → b ≡ true → length (where_sent b i) ≡ 6
+sent_long b i e = rw e (length_bits 6 i)
+
+pub sent_one : (b : Bool) (i : ℕ) (start now : List Bool) → b ≡ true → now ≡ start ++ bits_of 6 i → now ≡ start ++ where_sent b i
+sent_one b i start now e written = rw e written
+
+pub sent_none : (b : Bool) (i : ℕ) (start now : List Bool) → b ≡ false → now ≡ start → now ≡ start ++ where_sent b i
+sent_none b i start now e same = rw e (same ∙ sym (append-nil start))
 
 -- the three, one after the other
 module _ (s : Scfsi) (t : Three) (parts : ℕ) (e : parts ≡ parts_of s) where

@@ -7,7 +7,7 @@ use native.Mathlib.Nat.{zero-add}
 use native.Mathlib.Omega.{arith}
 use lib.Dec.{eqb}
 use lib.ListN.{length, get_or}
-use Rattle.std.specs.Prelude.{Ok, Err, Option, None, Some, is_some}
+use Rattle.std.specs.Prelude.{Ok, Err, Option, None, Some, is_some, ok_or}
 use Rattle.header.specs.Questions.{Question, number}
 use Rattle.header.proofs.QuestionLaws.{said_yes}
 use Rattle.bitalloc.specs.declared.BitAllocTable.{BitAllocTable}
@@ -36,15 +36,9 @@ module _ (t : BitAllocTable) (x : AllocationField) (first second : ℕ) where
   unequal e = rw e
 
   module _ (n : ℕ) (e : agree x first second ≡ true) (h : n ≡ held x first second) where
-    by_place : (o : Option ℕ) → o ≡ index_of t x.subband n → found_by true o ≡ found t x first second
+    pub placed : (o : Option ℕ) → o ≡ index_of t x.subband n → ok_or o StepsNotInRow ≡ found t x first second
     unfolding found
-    by_place o q = ap₂ found_by (sym e) (q ∙ ap (index_of t x.subband) h)
-
-    pub there : (p : ℕ) → Some p ≡ index_of t x.subband n → Ok p ≡ found t x first second
-    there p q = by_place (Some p) q
-
-    pub missing : None ≡ index_of t x.subband n → Err StepsNotInRow ≡ found t x first second
-    missing q = by_place None q
+    placed o q = ap₂ found_by (sym e) (q ∙ ap (index_of t x.subband) h)
 
 -- ---- what a place says
 

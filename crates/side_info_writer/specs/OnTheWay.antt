@@ -1,6 +1,6 @@
 -- What the functions find on the way to the bytes.
 -- For the contracts of private functions alone: nothing that a caller has to believe stands here.
-use Rattle.std.specs.Prelude.{ℕ, ◌+◌, ◌*◌, ◌<◌, ◌≡◌, Bool, true, false, cond, eqb, length, get_or, Result, Ok, Err, Option, None, Some}
+use Rattle.std.specs.Prelude.{ℕ, ◌+◌, ◌*◌, ◌<◌, ◌≡◌, Bool, true, false, cond, eqb, length, get_or, Result, Err, Option, ok_or}
 use mathlib.Core.List.{List, [], ◌∷◌, ◌++◌, map}
 use Rattle.header.specs.Questions.{Question, number}
 use Rattle.bitalloc.specs.declared.BitAllocTable.{BitAllocTable}
@@ -25,8 +25,7 @@ held x first second = cond (eqb x.channel 0) first second
 
 abbrev pub found_by : Bool → Option ℕ → Result ℕ WriteError
 found_by false o = Err StepsDiffer
-found_by true None = Err StepsNotInRow
-found_by true (Some p) = Ok p
+found_by true o = ok_or o StepsNotInRow
 
 unfoldable pub found : BitAllocTable → AllocationField → ℕ → ℕ → Result ℕ WriteError
 found t x first second = found_by (agree x first second) (index_of t x.subband (held x first second))

@@ -5,6 +5,7 @@ ghost use Rattle.bit_string.specs.Bits.{bits_of, packed};
 use crate::SIDE_INFO_BYTES;
 use std::marker::Model;
 
+// Kept: nothing is allocated, so that the bytes have room for the longest side information, and the number of full ones stands beside them.
 #[derive(Drop)]
 pub struct BitWriter {
     bytes: [u8; SIDE_INFO_BYTES],
@@ -42,6 +43,7 @@ impl BitWriter {
     }
 
     // A number in `width` bits behind what is written.
+    // Kept: std has no writer of bits, and what `Vec` has for bytes allocates.
     pub fn put(&mut self, value: u32, width: u32)
         requires { (width ≤ 8) × (value < 2 ^ width) × (length self.old + width ≤ 1392) }
         ensures { self.new ≡ self.old ++ bits_of width value }

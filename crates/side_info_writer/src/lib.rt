@@ -29,6 +29,7 @@ use bit_writer::BitWriter;
 pub const SIDE_INFO_BYTES: usize = 174;
 
 // The side information of a frame as bytes, most significant bit first, with zeros behind the last bit that is used; and how many bits are used.
+// Kept: nothing is allocated, so that the bytes have room for the longest; and their number does not say how many bits of the last one are used.
 #[derive(Clone, Copy)]
 pub struct WrittenSideInfo {
     pub bytes: [u8; SIDE_INFO_BYTES],
@@ -50,6 +51,7 @@ pub enum WriteError {
 
 impl WriteError {
     // The answer's number.
+    // Kept: C is answered by these numbers; the case of a header takes its number from what it holds, so that the cases have no discriminants.
     pub fn number(self) -> u32
         ensures { result ≡ error_number self }
     {
@@ -65,8 +67,8 @@ impl WriteError {
 impl From<BitAllocError> for WriteError {
     ghost from_gives = { λ error refusal. refusal ≡ Header error };
 
-    fn from(error: BitAllocError) -> WriteError {
-        WriteError::Header(error)
+    fn from(refusal: BitAllocError) -> WriteError {
+        WriteError::Header(refusal)
     }
 }
 
@@ -129,16 +131,13 @@ fn field_place(
 ) -> Result<u32, WriteError>
     ensures { result ≡ found table field first second }
 {
-    if agree(field, first, second) {
-        let nb_steps = held(field, first, second);
-        let place = table.allocation_index(field.subband, nb_steps);
-        match place {
-            Some(index) => Ok(index),
-            None => Err(WriteError::StepsNotInRow),
-        }
-    } else {
-        Err(WriteError::StepsDiffer)
+    if !agree(field, first, second) {
+        return Err(WriteError::StepsDiffer);
     }
+    let nb_steps = held(field, first, second);
+    table
+        .allocation_index(field.subband, nb_steps)
+        .ok_or(WriteError::StepsNotInRow)
 }
 
 // The allocation fields, field by field.
@@ -201,25 +200,19 @@ fn write_scfsi(active: ActiveSlots, info: &SideInfo, writer: &mut BitWriter)
     }
 }
 
-// The six bits of an index, where it is sent.
-fn put_index(writer: &mut BitWriter, sent: bool, index: u8)
-    requires { (index ≤ 62) × (length writer.old + length (where_sent sent index) ≤ 1392) }
-    ensures { writer.new ≡ writer.old ++ where_sent sent index }
-{
-    if sent {
-        writer.put(u32::from(index), 6);
-    }
-}
-
-// The indices that a scfsi sends: the first, the second where there are three, and the third where there is more than one.
+// The indices that a scfsi sends, six bits each: the first, the second where there are three, and the third where there is more than one.
 fn put_sent(writer: &mut BitWriter, scfsi: Scfsi, indices: [u8; 3])
     requires { (tabled (three_in indices) ≡ true) × (length writer.old + length (flat_map (bits_of 6) (sent scfsi (three_in indices))) ≤ 1392) }
     ensures { writer.new ≡ writer.old ++ flat_map (bits_of 6) (sent scfsi (three_in indices)) }
 {
     let parts = scfsi.parts_on_wire();
-    put_index(writer, true, indices[0]);
-    put_index(writer, parts == 3, indices[1]);
-    put_index(writer, 1 < parts, indices[2]);
+    writer.put(u32::from(indices[0]), 6);
+    if parts == 3 {
+        writer.put(u32::from(indices[1]), 6);
+    }
+    if 1 < parts {
+        writer.put(u32::from(indices[2]), 6);
+    }
 }
 
 // The scalefactors of the active slots.

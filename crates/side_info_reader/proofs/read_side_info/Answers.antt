@@ -1,14 +1,16 @@
 -- `side_info_reader::read_side_info` meets its contract: the budget's answer decides which law gives the answer.
-use mathlib.Core.Path.{sym, ap, ◌∙◌}
-use Rattle.encoder_bit_budget.specs.Budget.{budget_in}
+use Rattle.std.proofs.lemmas.Result.{err_from_is_err_and}
 use Rattle.side_info_reading.proofs.ReadLaws.{promises}
 use Rattle.side_info_reader.proofs.AnswerLaws.{from_refused, from_accepted}
 use Rattle.side_info_reader.proofs.read_side_info.Goals as goal
 
-pub returns-in-Ok : goal.returns-in-Ok
-returns-in-Ok c =
-    promises _ _ _ (from_accepted _ _ c.in-Ok.b _ _ (ap budget_in (sym c.in-Ok.is) ∙ c.fixed_bit_budget-budget.ensures.whole) c.layout.ensures c.read_under.ensures)
+pub returns-in_err-budget : goal.returns-in_err-budget
+returns-in_err-budget c =
+    let p = err_from_is_err_and c.from_residual.result c.from_residual.ensures.1 in
+    let b = c.in_err-budget.ensures in
+    rw (p.1, p.2) (promises _ _ _ (from_refused _ _ _ b.whole))
 
-pub returns-in-Err : goal.returns-in-Err
-returns-in-Err c =
-    promises _ _ _ (from_refused _ _ c.in-Err.error _ _ (ap budget_in (sym c.in-Err.is) ∙ c.fixed_bit_budget-budget.ensures.whole) c.number.ensures c.refused.ensures)
+pub returns : goal.returns
+returns c =
+    let b = c.in_ok-budget.ensures in
+    promises _ _ _ (from_accepted _ _ _ _ _ b.whole c.layout.ensures c.read_under.ensures)
