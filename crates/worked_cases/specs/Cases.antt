@@ -82,7 +82,7 @@ abbrev of_check : CheckAnswer → Answer
 of_check c = named c.number c.subband c.channel
 
 abbrev of_read : ReadAnswer → Answer
-of_read r = found r.number r.nb_steps (map (λ s. code_of s.scfsi) r.scfsi) r.scalefactor r.bits_used
+of_read r = found r.number r.info.steps (map code_of r.info.scfsi) r.info.scalefactors r.bits_used
 
 -- the two rows of ratios, where `any` stands for those given
 abbrev rows_of : List (List Float) → Ratios → List (List Float)
@@ -151,7 +151,7 @@ nothing_found n = found n (idle 64) (idle 64) (idle 192) 0
 
 -- one scfsi for every slot, and one index for every granule of every slot
 abbrev all_with : Scfsi → List Scfsi
-all_with s = replicate 64 (s)
+all_with s = replicate 64 s
 
 abbrev indexed : ℕ → List ℕ
 indexed i = replicate 192 i

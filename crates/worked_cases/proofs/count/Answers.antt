@@ -69,8 +69,6 @@ holds : Hold cases
 unfolding cases Hold
 holds smr = ap₂ ◌++◌ (first-case smr) (ap₂ ◌∷◌ (filled smr) (other-cases smr))
 
--- ---- a frame that the fixed and the ancillary bits fill
-
 -- ---- the table
 
 pub returns : goal.returns
