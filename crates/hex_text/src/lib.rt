@@ -15,6 +15,7 @@ pub enum HexError {
 }
 
 // Where the walk over the text stands: how many lines are before it, how many characters on its line, and whether a comment has begun there.
+// Kept: line and column are there in a comment and outside it, so `comment` says nothing of whether another value is.
 #[derive(Clone, Copy)]
 struct Place {
     line: u64,
@@ -100,6 +101,7 @@ fn worth(byte: u8) -> Option<u8>
 }
 
 // One digit more, on a line.
+// Kept: no copying by hand: a byte comes of every second digit, so the first of two waits in `high`.
 fn put(digits: Digits, digit: u8, line: u64, bytes: &mut [u8]) -> Digits
     requires count { digits.count < 18446744073709551615 }
     requires high { IfSome digits.high (λ high. high < 16) }

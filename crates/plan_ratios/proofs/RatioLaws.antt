@@ -1,18 +1,22 @@
 -- Laws of how a ratio is written.
-use Rattle.std.proofs.Common.{◌≡◌, ℕ, ◌+◌, ◌-◌, ◌<◌, min, List, [], ◌∷◌, length, get_or, take, drop, refl, arith, ne_eqb}
-use Rattle.std.specs.Prelude.{option_map}
+use Rattle.std.proofs.Common.{◌≡◌, ℕ, suc, ◌+◌, ◌-◌, ◌<◌, List, [], ◌∷◌, length, get_or, take, drop, refl, arith, ne_eqb}
+use native.Mathlib.Numerals.{add-one}
+use Rattle.std.specs.Prelude.{option_map, Some, None, position}
 use lib.Ieee.{neg}
-use Rattle.plan_text.specs.Bytes.{reach}
-use Rattle.plan_text.proofs.ByteLaws.{drop_past, take_rest}
+use lib.ListN.{drop_of_length-le}
+use lib.Seq.{take_all}
+use Rattle.plan_text.proofs.ByteLaws.{take_rest, reach_some, reach_none}
 use Rattle.plan_ratios.specs.Ratio.{is_point, pointed, unsigned, signed}
 
 -- the two parts of a number, as the code cuts them
-pub two_parts : (t : List ℕ) (r s : ℕ) → r ≡ 0 + reach is_point (drop 0 t) → s ≡ min (r + 1) (length t)
-    → pointed (take r t) (take (length t - s) (drop s t)) ≡ unsigned t
-unfolding unsigned
-two_parts t r s e f =
-    let g : r ≡ reach is_point t = omega arith in
-    rw (take_rest t s, drop_past t r s f, g)
+module _ (t : List ℕ) where
+  pub at_point : (r : ℕ) → Some r ≡ position is_point t → pointed (take r t) (take (length t - (r + 1)) (drop (r + 1) t)) ≡ unsigned t
+  unfolding unsigned
+  at_point r e = rw (take_rest t (r + 1), add-one r, reach_some is_point t r e) refl
+
+  pub no_point : None ≡ position is_point t → pointed t [] ≡ unsigned t
+  unfolding unsigned
+  no_point e = rw (reach_none is_point t e, take_all (length t) t (omega arith), drop_of_length-le t {i = suc (length t)} (omega arith)) refl
 
 -- the sign
 module _ (t : List ℕ) where

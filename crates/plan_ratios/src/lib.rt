@@ -45,9 +45,11 @@ fn read_signed(token: &[u8]) -> Option<f64>
 fn read_unsigned(token: &[u8]) -> Option<f64>
     ensures { result ≡ unsigned token.now }
 {
-    let point = plan_text::find_byte(token, 0, b'.');
-    let start = plan_text::past(point, token.len());
-    read_pointed(&token[..point], &token[start..])
+    // Kept: the digits before the point and those behind it are parts of the token that is read, and no buffer that is filled.
+    match token.iter().position(|b| *b == b'.') {
+        Some(point) => read_pointed(&token[..point], &token[point + 1..]),
+        None => read_pointed(token, b""),
+    }
 }
 
 // A number from the digits before its point and those behind it.
@@ -92,6 +94,7 @@ pub enum RatiosError {
 }
 
 // The ratios of a text: slot 32 * channel + subband, channel 0's first.
+// Kept: no heap, so the ratios fill the front of an array of 64, and how many they are stands beside it.
 #[derive(Clone, Copy)]
 pub struct Ratios {
     // How many there are; the slots behind them have 0.0.
@@ -107,6 +110,7 @@ pub fn read_ratios(text: &[u8], slots: usize) -> Result<Ratios, RatiosError>
     let mut ratios = [0.0; 64];
     let mut count: usize = 0;
     let mut place = skip_gap(text, Place { at: 0, feeds: 0 });
+    // Kept: a turn goes on from the token's end over a gap of any length; an iterator of tokens would have the same loop in its `next`.
     while place.at < text.len() {
         let line = place.feeds + 1;
         if count == room {
@@ -146,6 +150,7 @@ fn skip_gap(text: &[u8], from: Place) -> Place
     ensures { Skipped text.now from result }
 {
     let mut place = from;
+    // Kept: a comment is passed in one step to its line feed; an iterator over the bytes would need a flag for standing in one.
     while place.at < text.len() {
         let byte = text[place.at];
         if !is_end(byte) {

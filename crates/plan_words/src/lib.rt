@@ -101,6 +101,7 @@ pub enum WordsError {
 }
 
 // The header and the ancillary bits of a command line.
+// Kept: `Request` of encoder_bit_budget has the same two, but asks for an allocation; who shows side information reads words and asks for none.
 #[derive(Clone, Copy)]
 pub struct Words {
     pub header: FrameHeader,
@@ -113,7 +114,7 @@ pub fn read_words(words: &[u8]) -> Result<Words, WordsError>
 {
     let mut settings = Settings::nothing();
     let mut at = 0;
-    // A `while` over places and no iterator over the pieces: a refusal names the place of its word.
+    // Kept: a refusal names the place of its word; `split` gives a word without its place, and an empty one behind the last byte 0.
     while at < words.len() {
         let end = plan_text::find_byte(words, at, 0);
         let place = WordPlace { at, end };

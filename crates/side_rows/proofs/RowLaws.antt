@@ -1,10 +1,10 @@
 -- Laws of the digits of a multiplier, and of the lengths of rows.
-use mathlib.Core.Path.{◌≡◌, refl, sym, ap, ◌∙◌}
+use mathlib.Core.Path.{◌≡◌, refl, sym, ap, ap₂, ◌∙◌}
 use mathlib.Core.List.{List, [], ◌∷◌, ◌++◌, append_assoc, append-nil}
 use Prim.Native.Nat.{ℕ, zero, suc, ◌+◌, ◌-◌, ◌/◌, ◌%◌, ◌≤◌, ◌<◌}
 use native.Mathlib.Omega.{arith}
 use lib.ListN.{length, take, drop, set, get_or, length-append, length-set, length-take, length-drop}
-use lib.Seq.{drop-cons, drop-set-lt, get_or-set_same, take_all}
+use lib.Seq.{drop-cons, drop-set-lt, get_or-set_same}
 use Rattle.tables.specs.Scalefactors.{printed}
 use Rattle.audio_data.specs.Scfsi.{Three}
 use Rattle.layout.specs.Slots.{channel_in, subband_in}
@@ -65,13 +65,12 @@ all_spelled n digits rest i s h =
     record { whole = sym (s.whole ∙ ap (λ (k : ℕ). last_digits k rest ++ drop k digits) z); long = s.long }
 
 -- with the point
-pub multiplier_is : (digits : List ℕ) (n index : ℕ) → Spelled n digits → n ≡ get_or printed index 0
-    → take 1 digits ++ text "." ++ take (15 - 1) (drop 1 digits) ≡ multiplier_text index
+pub multiplier_is : (digits front back : List ℕ) (n index : ℕ) → Spelled n digits → n ≡ get_or printed index 0 → front ≡ take 1 digits → back ≡ drop 1 digits
+    → front ++ text "." ++ back ≡ multiplier_text index
 unfolding multiplier_text pointed_text
-multiplier_is digits n index s e =
+multiplier_is digits front back n index s e f b =
     let same : digits ≡ last_digits 15 (get_or printed index 0) = s.whole ∙ ap (last_digits 15) e in
-    ap (λ (t : List ℕ). take 1 digits ++ text "." ++ t) (take_all 14 (drop 1 digits) (omega (arith, length-drop 1 digits, s.long)))
-    ∙ ap (λ (t : List ℕ). take 1 t ++ text "." ++ drop 1 t) same
+    ap₂ (λ (t u : List ℕ). t ++ text "." ++ u) f b ∙ ap (λ (t : List ℕ). take 1 t ++ text "." ++ drop 1 t) same
 
 -- ---- the lengths
 

@@ -48,10 +48,8 @@ fn multiplier(line: Line, index: u8) -> Line
     ensures { text_of result ≡ cut (text_of line ++ multiplier_column index) }
 {
     let digits = spelled(printed_at(index));
-    line.text(b"  ")
-        .text(&digits[..1])
-        .text(b".")
-        .text(&digits[1..])
+    let (whole, places) = digits.split_at(1);
+    line.text(b"  ").text(whole).text(b".").text(places)
 }
 
 // The last 15 decimal digits of a number.

@@ -1,15 +1,23 @@
 -- `plan_ratios::read_unsigned` meets its contract.
-use Rattle.std.proofs.Common.{sym, ◌∙◌, arith, length-take-le}
+use Rattle.std.proofs.Common.{sym, ◌∙◌, rules, tests}
+use Rattle.std.proofs.lemmas.Iterator.{YieldsList-from_slice}
+use Rattle.std.proofs.lemmas.Iterator.Search.{position_from_yields_List}
 use Rattle.plan_ratios.specs.Ratio.{is_point}
-use Rattle.plan_text.proofs.ByteLaws.{found_most}
-use Rattle.plan_ratios.proofs.RatioLaws.{two_parts}
+use Rattle.plan_ratios.proofs.RatioLaws.{at_point, no_point}
 use Rattle.plan_ratios.proofs.read_unsigned.Goals as goal
 
-pub slice_bounds-read_pointed-end : goal.slice_bounds-read_pointed-end
-slice_bounds-read_pointed-end c =
+pub returns-in-Some : goal.returns-in-Some
+returns-in-Some c =
     let t = c.args.token.now in
-    sym (length-take-le c.find_byte-point.result t (found_most is_point t 0 c.find_byte-point.result (omega arith) c.find_byte-point.ensures))
+    c.read_pointed.ensures
+    ∙ at_point t _
+    (sym c.in-Some.is
+    ∙ position_from_yields_List is_point _ _ _ c.position.ensures.ran (YieldsList-from_slice t c.iter.ensures.rest) (λ x b q k. search (rules, tests)))
 
-pub returns : goal.returns
-returns c =
-    c.read_pointed.ensures ∙ two_parts _ _ _ c.find_byte-point.ensures c.past-start.ensures
+pub returns-in-None : goal.returns-in-None
+returns-in-None c =
+    let t = c.args.token.now in
+    c.read_pointed-in-None.ensures
+    ∙ no_point t
+    (sym c.in-None.is
+    ∙ position_from_yields_List is_point _ _ _ c.position.ensures.ran (YieldsList-from_slice t c.iter.ensures.rest) (λ x b q k. search (rules, tests)))

@@ -15,4 +15,4 @@ returns c =
     let t = text_of c.args.line in
     more t _ _ (more t _ _ (more t _ _ c.text.ensures c.text-2.ensures) c.text-3.ensures) c.text-4.ensures
     ∙ ap (λ (m : List ℕ). cut (t ++ (text "  " ++ m)))
-    (multiplier_is c.spelled-digits.result _ c.args.index c.spelled-digits.ensures c.printed_at.ensures)
+    (multiplier_is c.spelled-digits.result _ _ _ c.args.index c.spelled-digits.ensures c.printed_at.ensures c.split_at.ensures.front c.split_at.ensures.back)
