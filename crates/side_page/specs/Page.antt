@@ -60,7 +60,7 @@ accepted_page free b slots s bits = head_of free b ++ map (row_of s) slots ++ fo
 unfoldable pub page_by : FrameHeader → FixedBitBudget → ℕ → ReadAnswer → List (List ℕ)
 page_by h b given r =
     cond (eqb r.number 0)
-    (accepted_page (free_format h) b (active_slots (layout_in b) r.nb_steps) r.info r.bits_used)
+    (accepted_page (free_format h) b (active_slots (layout_in b) r.info.steps) r.info r.bits_used)
     (refused_line h r.number given ∷ [])
 
 -- the whole page, from the header, how many bytes were given, and what was read from them

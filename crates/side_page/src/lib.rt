@@ -3,71 +3,77 @@
 
 mod refusal;
 
-ghost use Rattle.std.specs.Prelude.{◌≡◌, [], ◌<◌, get_or};
-ghost use Rattle.active_slots.specs.Active.{listed, SlotsIn};
-ghost use Rattle.side_info_reading.specs.Read.{record_in};
+ghost use Rattle.std.specs.Prelude.{◌≡◌, ◌<◌};
+ghost use Rattle.header.specs.Header.{free_format};
+ghost use Rattle.active_slots.specs.Active.{listed};
+ghost use Rattle.side_info_reader.specs.Errors.{read_in};
 ghost use Rattle.text_line.specs.Line.{text_of};
-ghost use Rattle.text_line.specs.Page.{LineIs};
+ghost use Rattle.text_line.specs.Page.{LineAt};
 ghost use Rattle.side_page.specs.Page.{first_line, head_of, row_of, foot_of, accepted_page, side_page};
 
 use active_slots::ActiveSlots;
 use encoder_bit_budget::{FixedBitBudget, Request};
 use header::FrameHeader;
 use plan_lines::Label;
-use side_info_reading::ReadSideInfo;
-use text_line::{Line, PageLine, only};
+use side_info::SideInfo;
+use side_info_reader::{ReadError, ReadSideInfo};
+use text_line::Line;
 
 // The line of a number, counted from 0, of the page for a header, the number of bytes given and what was read from them.
-pub fn page_line(header: FrameHeader, given: u64, read: ReadSideInfo, n: usize) -> PageLine
-    ensures { LineIs (side_page header given read) n result }
+pub fn page_line(
+    header: FrameHeader,
+    given: u64,
+    read: Result<ReadSideInfo, ReadError>,
+    n: usize,
+) -> Option<Line>
+    ensures { LineAt (side_page header given (read_in read)) n result }
 {
-    if read.number == 0 {
-        let b = plan_lines::budget_held(Request { header, banc: 0 });
-        let active = active_slots::active_slots(b.layout(), read.nb_steps);
-        let there = n < active.count + 5;
-        let line = accepted_line(header.is_free_format(), b, active, read, n);
-        PageLine { there, line }
-    } else {
-        only(refusal::refused_line(header, read.number, given), n)
+    match read {
+        Ok(read) => {
+            let b = plan_lines::budget_held(Request { header, banc: 0 });
+            let active = active_slots::active_slots(b.layout(), read.info.steps);
+            accepted_line(header, b, active, &read, n)
+        }
+        Err(error) => text_line::only(refusal::refused_line(header, error, given), n),
     }
 }
 
 // A line of the page of side information that was read.
 fn accepted_line(
-    free: bool,
+    header: FrameHeader,
     b: FixedBitBudget,
     active: ActiveSlots,
-    read: ReadSideInfo,
+    read: &ReadSideInfo,
     n: usize,
-) -> Line
-    requires { SlotsIn active }
-    ensures { text_of result ≡ get_or (accepted_page free b (listed active) (record_in read) read.bits_used) n [] }
+) -> Option<Line>
+    ensures { LineAt (accepted_page (free_format header) b (listed active) read.now.info read.now.bits_used) n result }
 {
-    let count = active.count;
     if n < 3 {
-        head_line(free, b, n)
-    } else if n - 3 < count {
-        row_line(active.slots[n - 3] as usize, read)
-    } else {
-        foot_line(read.bits_used as u64, n - 3 - count)
+        return head_line(header, b, n);
+    }
+    let slots = active.as_slice();
+    match slots.get(n - 3) {
+        Some(slot) => Some(row_line(usize::from(*slot), &read.info)),
+        None => foot_line(u64::from(read.bits_used), n - 3 - slots.len()),
     }
 }
 
 // A line above the rows.
-fn head_line(free: bool, b: FixedBitBudget, n: usize) -> Line
-    ensures { text_of result ≡ get_or (head_of free b) n [] }
+fn head_line(header: FrameHeader, b: FixedBitBudget, n: usize) -> Option<Line>
+    ensures { LineAt (head_of (free_format header) b) n result }
 {
     match n {
-        0 => first_line(free, b),
-        2 => side_rows::heading(),
-        _ => Line::new(),
+        0 => Some(first_line(header, b)),
+        1 => Some(Line::new()),
+        2 => Some(side_rows::heading()),
+        _ => None,
     }
 }
 
-fn first_line(free: bool, b: FixedBitBudget) -> Line
-    ensures { text_of result ≡ first_line free b }
+fn first_line(header: FrameHeader, b: FixedBitBudget) -> Line
+    ensures { text_of result ≡ first_line (free_format header) b }
 {
-    if free {
+    if header.is_free_format() {
         plan_lines::free_line(b)
     } else {
         plan_lines::frame_line(b)
@@ -75,25 +81,26 @@ fn first_line(free: bool, b: FixedBitBudget) -> Line
 }
 
 // The row of a slot.
-fn row_line(slot: usize, read: ReadSideInfo) -> Line
+fn row_line(slot: usize, info: &SideInfo) -> Line
     requires { slot < 64 }
-    ensures { text_of result ≡ row_of (record_in read) slot }
+    ensures { text_of result ≡ row_of info.now slot }
 {
-    let index = read.scalefactor;
+    let index = &info.scalefactors;
     side_rows::row_line(
         slot,
-        read.nb_steps[slot],
-        read.scfsi[slot].scfsi.code(),
+        info.steps[slot],
+        info.scfsi[slot].code(),
         [index[3 * slot], index[3 * slot + 1], index[3 * slot + 2]],
     )
 }
 
 // A line below the rows.
-fn foot_line(bits: u64, n: usize) -> Line
-    ensures { text_of result ≡ get_or (foot_of bits) n [] }
+fn foot_line(bits: u64, n: usize) -> Option<Line>
+    ensures { LineAt (foot_of bits) n result }
 {
     match n {
-        1 => plan_lines::bits_line(Label::Used, bits),
-        _ => Line::new(),
+        0 => Some(Line::new()),
+        1 => Some(plan_lines::bits_line(Label::Used, bits)),
+        _ => None,
     }
 }

@@ -1,27 +1,37 @@
 // The line of side information that is refused.
-ghost use Rattle.std.specs.Prelude.{◌≡◌};
+ghost use Rattle.std.specs.Prelude.{◌≡◌, ℕ, List};
+ghost use Rattle.encoder_bit_budget.specs.Budget.{error_number};
+ghost use Rattle.plan_lines.specs.Held.{told};
 ghost use Rattle.text_line.specs.Line.{text_of};
+ghost use Rattle.side_info_reader.specs.Errors as reader;
 ghost use Rattle.side_page.specs.Page.{cut_short_text, reserved_text, refused_line};
 
+use encoder_bit_budget::BitAllocError;
 use header::FrameHeader;
-use plan_lines::Refusal;
+use side_info_reader::ReadError;
 use text_line::Line;
 
-pub fn refused_line(header: FrameHeader, number: u32, given: u64) -> Line
-    ensures { text_of result ≡ refused_line header number given }
+pub fn refused_line(header: FrameHeader, error: ReadError, given: u64) -> Line
+    ensures { text_of result ≡ refused_line header (reader.error_number error) given }
 {
-    match number {
-        9 => cut_short(given),
-        10 => reserved(),
-        _ => plan_lines::refusal_line(
-            header,
-            Refusal {
-                number,
-                cb: 0,
-                fixed: 0,
-                banc: 0,
-            },
-        ),
+    match error {
+        ReadError::EndOfBytes => cut_short(given),
+        ReadError::ReservedIndex => reserved(),
+        ReadError::Header(error) => plan_lines::refusal_line(header, without_bits(error)),
+    }
+}
+
+// The page names no bits beside a number: 4 alone has any, and no reader gives it.
+fn without_bits(error: BitAllocError) -> BitAllocError
+    ensures { (said : ℕ → ℕ → ℕ → ℕ → List ℕ) → told said result ≡ said (error_number error) 0 0 0 }
+{
+    match error {
+        BitAllocError::InsufficientFrameSize { .. } => BitAllocError::InsufficientFrameSize {
+            cb: 0,
+            fixed: 0,
+            banc: 0,
+        },
+        _ => error,
     }
 }
 

@@ -1,19 +1,18 @@
 -- `side_page::refusal::refused_line` meets its contract.
-use borrow.Author.Tests.{ne_eqb}
-use native.Mathlib.Omega.{arith}
+use Rattle.std.proofs.Common.{◌∙◌}
 use Rattle.side_page.specs.Page.{refused_line}
+use Rattle.plan_lines.specs.Refusal.{refusal_line}
+use Rattle.side_page.proofs.PageLaws.{header_refused}
 use Rattle.side_page.proofs.refusal.refused_line.Goals as goal
 
-pub returns-in-9 : goal.returns-in-9
+pub returns-in-EndOfBytes : goal.returns-in-EndOfBytes
 unfolding refused_line
-returns-in-9 c = rw c.in-9.is c.cut_short.ensures
+returns-in-EndOfBytes c = rw c.in-EndOfBytes.is c.cut_short.ensures
 
-pub returns-in-10 : goal.returns-in-10
+pub returns-in-ReservedIndex : goal.returns-in-ReservedIndex
 unfolding refused_line
-returns-in-10 c = rw c.in-10.is c.reserved.ensures
+returns-in-ReservedIndex c = rw c.in-ReservedIndex.is c.reserved.ensures
 
-pub returns-in_default : goal.returns-in_default
-unfolding refused_line
-returns-in_default c =
-    let n = c.args.number in
-    rw (ne_eqb n 9 (omega arith), ne_eqb n 10 (omega arith)) c.refusal_line.ensures
+pub returns-in-Header : goal.returns-in-Header
+returns-in-Header c =
+    rw c.in-Header.is (c.refusal_line.ensures ∙ c.without_bits.ensures (refusal_line c.args.header) ∙ header_refused c.args.header c.args.given c.in-Header.error)
