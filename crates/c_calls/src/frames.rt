@@ -89,7 +89,7 @@ fn available_data_bits(rt: &impl Print, h: Head, banc: u32) -> io::Result<()> {
         rt,
         "available_data_bits",
         number,
-        &out.map(show::not_below_zero),
+        &out.map(|bits| u64::try_from(bits).unwrap_or(0)),
     )
 }
 

@@ -13,52 +13,46 @@ use frames::Head;
 use std::io;
 
 fn main(rt: HostRuntime) -> io::Result<()> {
-    frames::ask(&rt, joint(), 1_000)?;
-    frames::ask(&rt, single(), 2)?;
-    frames::ask(&rt, largest(), 3)?;
+    frames::ask(&rt, JOINT, 1_000)?;
+    frames::ask(&rt, SINGLE, 2)?;
+    frames::ask(&rt, LARGEST, 3)?;
     rows::ask(&rt)?;
     indices::ask(&rt)?;
     version(&rt)
 }
 
 // Joint stereo with bound 12, padding and a CRC.
-fn joint() -> Head {
-    Head {
-        lsf: 0,
-        bit_rate: 192_000,
-        sample_rate: 44_100,
-        padding: 1,
-        protection_bit: 0,
-        mode: 1,
-        mode_extension: 2,
-    }
-}
+const JOINT: Head = Head {
+    lsf: 0,
+    bit_rate: 192_000,
+    sample_rate: 44_100,
+    padding: 1,
+    protection_bit: 0,
+    mode: 1,
+    mode_extension: 2,
+};
 
 // One channel, neither padding nor CRC.
-fn single() -> Head {
-    Head {
-        lsf: 0,
-        bit_rate: 64_000,
-        sample_rate: 48_000,
-        padding: 0,
-        protection_bit: 1,
-        mode: 3,
-        mode_extension: 1,
-    }
-}
+const SINGLE: Head = Head {
+    lsf: 0,
+    bit_rate: 64_000,
+    sample_rate: 48_000,
+    padding: 0,
+    protection_bit: 1,
+    mode: 3,
+    mode_extension: 1,
+};
 
 // The longest frame that is accepted, but for padding.
-fn largest() -> Head {
-    Head {
-        lsf: 1,
-        bit_rate: 160_000,
-        sample_rate: 1,
-        padding: 0,
-        protection_bit: 1,
-        mode: 3,
-        mode_extension: 2,
-    }
-}
+const LARGEST: Head = Head {
+    lsf: 1,
+    bit_rate: 160_000,
+    sample_rate: 1,
+    padding: 0,
+    protection_bit: 1,
+    mode: 3,
+    mode_extension: 2,
+};
 
 fn version(rt: &impl Print) -> io::Result<()> {
     show::returned(rt, "version", folgrist_mp2::version::folgrist_version())

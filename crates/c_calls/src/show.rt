@@ -24,8 +24,3 @@ pub fn returned(rt: &impl Print, name: &str, number: u32) -> io::Result<()> {
 pub fn bits(x: f64) -> u64 {
     if x.is_nan() { 0 } else { x.to_bits() }
 }
-
-// The number, and 0 where it is below 0.
-pub fn not_below_zero(n: i64) -> u64 {
-    u64::try_from(n).unwrap_or(0)
-}
