@@ -11,7 +11,7 @@ use Rattle.side_info_reading.specs.Read.{record_in}
 use Rattle.plan_text.specs.Quoted.{text}
 use Rattle.text_line.specs.Number.{number_text}
 use Rattle.plan_lines.specs.Lines.{frame_line, free_line, bits_line}
-use Rattle.plan_lines.specs.Refusal.{refusal_line}
+use Rattle.plan_lines.specs.Refusal.{too_large_text, other_text, refusal_line}
 use Rattle.side_rows.specs.Rows.{heading_line, row_line}
 
 -- ---- refusals
@@ -33,6 +33,10 @@ refused_line h number given =
     cond (eqb number 9) (cut_short_text given)
     (cond (eqb number 10) reserved_text
     (refusal_line h number 0 0 0))
+
+-- a number that no question of a header gives
+unfoldable pub other_line : ℕ → List ℕ
+other_line number = text "refused " ++ number_text number ++ text ": " ++ cond (eqb number 3) too_large_text other_text
 
 -- ---- the page
 

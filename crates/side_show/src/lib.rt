@@ -3,16 +3,16 @@
 
 mod notes;
 
-ghost use Rattle.text_line.specs.Page.{LineIs};
+ghost use Rattle.text_line.specs.Page.{LineAt};
 ghost use Rattle.side_show.specs.Side.{with_bytes, with_input, side_of};
 
 use header::FrameHeader;
 use hex_text::HexError;
-use text_line::{PageLine, only};
+use text_line::{Line, only};
 
 // The line of a number, counted from 0. The words are each ended by a byte 0.
-pub fn side_line(words: &[u8], input: &[u8], n: usize) -> PageLine
-    ensures { LineIs (side_of words.now input.now) n result }
+pub fn side_line(words: &[u8], input: &[u8], n: usize) -> Option<Line>
+    ensures { LineAt (side_of words.now input.now) n result }
 {
     if 4096 <= words.len() {
         return only(word_notes::long_words(), n);
@@ -24,12 +24,13 @@ pub fn side_line(words: &[u8], input: &[u8], n: usize) -> PageLine
 }
 
 // With an input: what its bytes give, or the line that says what is wrong with its digits.
-fn with_input(header: FrameHeader, input: &[u8], n: usize) -> PageLine
-    ensures { LineIs (with_input header input.now) n result }
+fn with_input(header: FrameHeader, input: &[u8], n: usize) -> Option<Line>
+    ensures { LineAt (with_input header input.now) n result }
 {
     if 65_536 <= input.len() {
         return only(word_notes::long_input(), n);
     }
+    // Kept: no heap, so the bytes fill the front of a fixed array, and the page is of that front.
     let mut bytes = [0u8; 65_536];
     match hex_text::read_hex(input, &mut bytes) {
         Ok(count) => with_bytes(header, &bytes[..count], n),
@@ -41,8 +42,8 @@ fn with_input(header: FrameHeader, input: &[u8], n: usize) -> PageLine
 }
 
 // With bytes: the page of the side information that they begin with.
-fn with_bytes(header: FrameHeader, bytes: &[u8], n: usize) -> PageLine
-    ensures { LineIs (with_bytes header bytes.now) n result }
+fn with_bytes(header: FrameHeader, bytes: &[u8], n: usize) -> Option<Line>
+    ensures { LineAt (with_bytes header bytes.now) n result }
 {
     let read = side_info_reader::read_side_info(header, bytes);
     side_page::page_line(header, bytes.len() as u64, read, n)

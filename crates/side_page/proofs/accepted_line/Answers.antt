@@ -1,6 +1,7 @@
 -- `side_page::accepted_line` meets its contract.
-use mathlib.Core.Path.{sym, ◌∙◌}
+use mathlib.Core.Path.{sym, ap, ◌∙◌}
 use Prim.Native.Nat.{◌-◌}
+use Rattle.std.specs.Prelude.{Some}
 use Rattle.side_page.proofs.PageLaws.{in_head, in_rows, in_foot}
 use Rattle.side_page.proofs.accepted_line.Goals as goal
 
@@ -12,7 +13,7 @@ returns-then-n-lt3 c = c.head_line.ensures ∙ sym (in_head _ _ _ _ _ _ c.if-n-l
 
 pub returns-then-n-count : goal.returns-then-n-count
 returns-then-n-count c =
-    c.row_line.ensures ∙ sym (in_rows _ _ _ c.requires _ _ _ c.if-n-lt3.false c.if-n-count.true)
+    ap Some c.row_line.ensures ∙ sym (in_rows _ _ _ c.requires _ _ _ c.if-n-lt3.false c.if-n-count.true)
 
 pub returns-else-n-count : goal.returns-else-n-count
 returns-else-n-count c =

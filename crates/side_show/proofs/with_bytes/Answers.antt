@@ -4,4 +4,4 @@ use Rattle.side_show.proofs.SideLaws.{shown}
 use Rattle.side_show.proofs.with_bytes.Goals as goal
 
 pub returns : goal.returns
-returns c = moved (shown _ _ _ c.read_side_info-read.ensures.whole) c.page_line.ensures
+returns c = moved c.args.n (shown _ _ _ c.read_side_info-read.ensures.whole) c.page_line.ensures

@@ -8,16 +8,16 @@ use Rattle.side_show.proofs.SideLaws.{input_too_long, good_digits, wrong_digit, 
 use Rattle.side_show.proofs.with_input.Goals as goal
 
 pub returns-then-input-ge65536 : goal.returns-then-input-ge65536
-returns-then-input-ge65536 c = moved (input_too_long _ _ _ c.if-input-ge65536.true c.long_input.ensures) c.only.ensures
+returns-then-input-ge65536 c = moved c.args.n (input_too_long _ _ _ c.if-input-ge65536.true c.long_input.ensures) c.only.ensures
 
 pub returns-in-Ok : goal.returns-in-Ok
 returns-in-Ok c =
-    moved (good_digits _ _ c.if-input-ge65536.false _ _ c.read_hex.ensures (search rules) _ c.in-Ok.is) c.with_bytes.ensures
+    moved c.args.n (good_digits _ _ c.if-input-ge65536.false _ _ c.read_hex.ensures (search rules) _ c.in-Ok.is) c.with_bytes.ensures
 
 pub returns-in-Err-WrongCharacter : goal.returns-in-Err-WrongCharacter
 returns-in-Err-WrongCharacter c =
     let k = c.in-Err-WrongCharacter in
-    moved
+    moved c.args.n
     (wrong_digit _ _ c.if-input-ge65536.false _ _ c.read_hex.ensures _ _ _ (k.is ∙ ap Err k.field-0-is)
     (c.wrong_character.ensures ∙ ap₂ wrong_character_text k.line-is k.column-is))
     c.only-in-Err-WrongCharacter.ensures
@@ -25,7 +25,7 @@ returns-in-Err-WrongCharacter c =
 pub returns-in-Err-OddDigits : goal.returns-in-Err-OddDigits
 returns-in-Err-OddDigits c =
     let k = c.in-Err-OddDigits in
-    moved
+    moved c.args.n
     (digit_over _ _ c.if-input-ge65536.false _ _ c.read_hex.ensures _ _ (k.is ∙ ap Err k.field-0-is)
     (c.odd_digits.ensures ∙ ap odd_digits_text k.line-is))
     c.only-in-Err-OddDigits.ensures
