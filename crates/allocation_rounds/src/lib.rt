@@ -41,6 +41,7 @@ struct Step {
 
 // The rules as tables: how many fields there are, the top place of each, and sixteen ratios and sixteen charges to a field, of its
 // places 0 to 15.
+// Kept: without a heap the arrays have the largest length and a count beside; each is read by itself (`mnr`, `price`, `update`).
 #[derive(Clone, Copy)]
 pub struct Tables {
     pub fields: usize,
@@ -51,6 +52,7 @@ pub struct Tables {
 
 impl Tables {
     // How many fields are considered: at most 64.
+    // Kept: std's `min`: the arrays hold 64 fields, and `fields` is a caller's number.
     fn considered(&self) -> usize
         ensures { result ≡ min self.now.fields 64 }
     {
@@ -74,6 +76,7 @@ impl Tables {
 }
 
 // The state of a run, by field: the place at which it stands and whether it is closed; and the bits left.
+// Kept: `steps_held` takes the places whole and asks nothing of `closed`; `left` counts bits and is no length of the arrays.
 #[derive(Clone, Copy)]
 pub struct Run {
     pub places: [u8; 64],
@@ -172,7 +175,8 @@ impl Run {
 }
 
 // What is kept of each field beside the state, so that a round finds it in two short arrays: whether the field waits, and its ratio
-// at its place. With one array of `Option<f64>` the rounds took about a tenth longer.
+// at its place.
+// Kept: with one array of `Option<f64>` the rounds took about a tenth longer.
 #[derive(Clone, Copy)]
 struct Watch {
     waiting: [bool; 64],

@@ -26,6 +26,7 @@ pub enum BitAllocTable {
 pub struct UnknownTable(pub u64);
 
 // The table of a number.
+// Kept: std makes no enum of a number, so each number is matched to its table.
 impl TryFrom<u64> for BitAllocTable {
     type Error = UnknownTable;
 
@@ -45,6 +46,7 @@ impl TryFrom<u64> for BitAllocTable {
 
 impl BitAllocTable {
     // The table's number.
+    // Kept: C and the printed lines name a table by its number, which the enum says.
     pub fn number(self) -> u32
         ensures { result ≡ table_number self }
     {
@@ -52,6 +54,7 @@ impl BitAllocTable {
     }
 
     // How many subbands the table carries.
+    // Kept: this match and those of `ends` and `column` are columns of one table; an array by number would leave out the names and need its bound proved.
     pub fn sblimit(self) -> usize
         ensures { SblimitIs self result }
     {

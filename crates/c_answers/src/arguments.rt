@@ -9,6 +9,7 @@ use bitalloc::BitAllocTable;
 use header::{FrameHeader, Mode, ModeExtension};
 
 // The seven numbers of a call, in the order of the C header.
+// Kept: `Head` of `c_calls` has the same fields: that program stands on `folgrist_mp2` alone and calls it by numbers, as C does.
 #[derive(Clone, Copy)]
 pub struct HeaderNumbers {
     pub lsf: u8,
@@ -22,6 +23,7 @@ pub struct HeaderNumbers {
 
 impl HeaderNumbers {
     // The header that they mean; refused where a slice of the call is short, or where one of them means nothing.
+    // Kept: that slices are asked about before numbers stands here once; without the flag each caller would have to test and return first.
     pub fn header(self, short: bool) -> Result<FrameHeader, Refusal>
         ensures { meaning_in result ≡ asked short (header_numbered self) }
     {
@@ -58,6 +60,7 @@ impl TryFrom<HeaderNumbers> for FrameHeader {
 }
 
 // A flag is 0 or 1.
+// Kept: std makes no bool of a number.
 fn flag(number: u8) -> Result<bool, Refusal>
     ensures { meaning_in result ≡ cond (leb number 1) (meant (eqb number 1)) (refused 14) }
 {
@@ -69,6 +72,7 @@ fn flag(number: u8) -> Result<bool, Refusal>
 }
 
 // The table of a number; refused where a slice of the call is short, or where the number means nothing.
+// Kept: the flag as in `HeaderNumbers::header`: slices are asked about before the number.
 pub fn table(short: bool, number: u8) -> Result<BitAllocTable, Refusal>
     ensures { meaning_in result ≡ table_meant short number }
 {

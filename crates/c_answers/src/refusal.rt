@@ -15,6 +15,7 @@ pub enum Refusal {
 
 impl Refusal {
     // The number that the call answers.
+    // Kept: the C interface answers by these numbers, which follow no order of the variants.
     pub fn number(self) -> u32
         ensures { result ≡ refusal_number self }
     {

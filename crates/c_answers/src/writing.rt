@@ -2,6 +2,7 @@
 ghost use Rattle.std.specs.Prelude.{◌≡◌, ◌≤◌, length};
 ghost use Rattle.c_answers.specs.Answers.{written, fitted};
 
+// Kept: `copy_from_slice` wants equal lengths, and a caller's slice may be longer or shorter than the values.
 pub fn put<T: Copy>(values: &[T], out: &mut [T])
     ensures front { out.new ≡ fitted values.now out.old }
     ensures whole { length values.now ≤ length out.old → out.new ≡ written values.now out.old }

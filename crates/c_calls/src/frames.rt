@@ -4,8 +4,8 @@ use crate::show;
 use folgrist_mp2::{frame, side_information};
 use std::io;
 
-// The seven arguments of a header. Of the same form as `HeaderNumbers` of `c_answers`, on which this program does not stand: it calls
-// `folgrist_mp2` alone, by numbers, as C does. Each call writes the seven out, since their order is what it shows.
+// The seven arguments of a header.
+// Kept: of the form of `HeaderNumbers` of `c_answers`, on which this program does not stand: it calls `folgrist_mp2` alone, by numbers, as C does.
 #[derive(Clone, Copy)]
 pub struct Head {
     pub lsf: u8,
@@ -27,6 +27,7 @@ pub fn ask(rt: &impl Print, h: Head, banc: u32) -> io::Result<()> {
     write_side_info(rt, h)
 }
 
+// Kept: here and below each call writes its arguments out by position, since their order is what the program shows.
 fn select_table(rt: &impl Print, h: Head) -> io::Result<()> {
     let mut out = [9u32; 1];
     let number = frame::folgrist_select_table(

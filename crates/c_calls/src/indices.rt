@@ -13,6 +13,7 @@ pub fn ask(rt: &impl Print) -> io::Result<()> {
     write_triplet(rt, 5, 0.9, 0.1, -0.6)
 }
 
+// Kept: here and below each call writes its arguments out by position, since their order is what the program shows.
 fn pick_scalefactor_index(rt: &impl Print, max_abs: f64) -> io::Result<()> {
     let index = scalefactors::folgrist_pick_scalefactor_index(max_abs);
     show::returned(rt, "pick_scalefactor_index", u32::from(index))

@@ -1,4 +1,5 @@
 // A record of side information.
+// Kept: C takes steps, scfsi and indices as three slices, of different lengths.
 #[derive(Clone, Copy)]
 pub struct Record {
     pub steps: [u32; 64],

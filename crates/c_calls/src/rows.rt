@@ -12,6 +12,7 @@ pub fn ask(rt: &impl Print) -> io::Result<()> {
     snr_db(rt, 31)
 }
 
+// Kept: here and below each call writes its arguments out by position, since their order is what the program shows.
 fn table_limits(rt: &impl Print, table: u8, sb: u64) -> io::Result<()> {
     let mut out = [9u32; 2];
     let number = table_rows::folgrist_table_limits(table, sb, &mut out);

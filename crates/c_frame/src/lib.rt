@@ -106,6 +106,7 @@ pub fn demand_bits(given: HeaderNumbers, smr_db: &[f64], out: &mut [u64]) -> Res
 }
 
 // The steps of each slot, and the bits left.
+// Kept: C hands over `banc` and each of the three slices by itself.
 #[tactic(auto, unfolding(audio_data::specs::Record::filler))]
 pub fn allocate_bits(
     given: HeaderNumbers,

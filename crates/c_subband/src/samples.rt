@@ -9,6 +9,7 @@ use c_answers::refusal::Refusal;
 use c_answers::{parts, writing};
 
 // The code of a sample in the class of a number of steps.
+// Kept: here and below the arguments are those of the C function of the same name, each by itself.
 pub fn quantize_sample(steps: u32, sample: f64, out: &mut [u32]) -> Result<u32, Refusal>
     ensures { Answers
         (answered

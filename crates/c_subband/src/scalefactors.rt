@@ -8,6 +8,7 @@ use c_answers::refusal::Refusal;
 use c_answers::{parts, writing};
 
 // Which of three scalefactor indices are used, and which are transmitted.
+// Kept: here and below the arguments are those of the C function of the same name, each by itself.
 pub fn select_scfsi(a: u8, b: u8, c: u8, out: &mut [u8]) -> Result<u32, Refusal>
     ensures { Answers
         (answered

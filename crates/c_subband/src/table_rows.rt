@@ -10,6 +10,7 @@ use c_answers::refusal::Refusal;
 use c_answers::{arguments, parts, writing};
 
 // How many subbands a table carries, and the bits of a subband's allocation field.
+// Kept: here and below the arguments are those of the C function of the same name, each by itself.
 pub fn table_limits(table: u8, sb: u64, out: &mut [u32]) -> Result<u32, Refusal>
     ensures { Answers
         (answered
@@ -23,6 +24,7 @@ pub fn table_limits(table: u8, sb: u64, out: &mut [u32]) -> Result<u32, Refusal>
 }
 
 // The steps at a place of a subband's row.
+// Kept: `nb_steps` and `allocation_index` are two functions of C that differ in what they ask the table; the rest they share is `put_found`.
 pub fn nb_steps(table: u8, sb: u64, index: u32, out: &mut [u32]) -> Result<u32, Refusal>
     ensures { Answers
         (answered

@@ -13,6 +13,7 @@ use header::FrameHeader;
 use layout::Layout;
 
 // What is asked of a frame's bits.
+// Kept: `Words` of `plan_words` has the same fields, and neither crate stands on the other: that is what a line says, this is what a frame is asked.
 #[derive(Clone, Copy)]
 pub struct Request {
     pub header: FrameHeader,
@@ -32,6 +33,7 @@ pub enum BitAllocError {
 
 impl BitAllocError {
     // The answer's number.
+    // Kept: C and the pages answer by these numbers, which follow no order of the variants; one variant has fields, so there is no cast.
     pub fn number(self) -> u32
         ensures { result ≡ error_number self }
     {

@@ -76,6 +76,7 @@ fn layout_demand(layout: Layout, smr_db: &[[f64; 32]; 2]) -> u64
 }
 
 // The demand of a field, which pays its samples once and the first step of each channel that it serves.
+// Kept: without a heap a row comes as sixteen numbers by value, and its places are the first of them.
 fn field_demand(table: BitAllocTable, field: AllocationField, smr_db: &[[f64; 32]; 2]) -> u64
     requires { (field.subband < sblimit_of table) × (field.channel < 2) }
     ensures { FieldDemandIs table smr_db.now field result }

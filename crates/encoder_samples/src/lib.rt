@@ -75,6 +75,7 @@ pub fn nearest_whole(x: f64) -> u64
 }
 
 // Three samples' codewords: how many, the bits of each, and the codewords, with 0 in the places that are not used.
+// Kept: C takes three words whatever the count, and without a heap there is no list of one or three.
 #[derive(Clone, Copy)]
 pub struct Triplet {
     pub count: u32,

@@ -22,6 +22,7 @@ pub enum DifferenceClass {
 
 impl DifferenceClass {
     // The class's number in Table C.4.
+    // Kept: C and the replay name a class by its printed number, which the enum says.
     pub fn as_index(self) -> u8
         ensures { NumberIs self result }
     {
@@ -156,6 +157,7 @@ fn row_of(class1: DifferenceClass, class2: DifferenceClass) -> [u8; 7]
 }
 
 // The index that the table names so.
+// Kept: 1 to 4 are the names that the rows above use, so this match reads them as they stand; an enum of the four would need the same match besides.
 fn named(name: u8, scalefactors: [u8; 3]) -> u8
     ensures { result ≡ named (get_or scalefactors 0 0) (get_or scalefactors 1 0) (get_or scalefactors 2 0) name }
 {

@@ -9,6 +9,7 @@ use c_answers::arguments::HeaderNumbers;
 use c_answers::refusal::number_of;
 
 // The allocation table that a header selects.
+// Kept: here and below: C needs each name, and takes numbers and slices by position, in the order of include/folgrist_mp2.h.
 pub fn folgrist_select_table(
     lsf: u8,
     bit_rate: u32,

@@ -8,6 +8,7 @@ use c_answers::refusal::number_of;
 use c_subband::samples;
 
 // The code of a sample in the class of a number of steps.
+// Kept: here and below: C needs each name, and takes numbers and slices by position, in the order of include/folgrist_mp2.h.
 pub fn folgrist_quantize_sample(steps: u32, sample: f64, out: &mut [u32]) -> u32
     ensures { Answers
         (answered

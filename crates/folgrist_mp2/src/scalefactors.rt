@@ -16,6 +16,7 @@ pub fn folgrist_pick_scalefactor_index(max_abs: f64) -> u8
 }
 
 // Which of three scalefactor indices are used, and which are transmitted.
+// Kept: here and below: C needs each name, and takes numbers and slices by position, in the order of include/folgrist_mp2.h.
 pub fn folgrist_select_scfsi(a: u8, b: u8, c: u8, out: &mut [u8]) -> u32
     ensures { Answers
         (answered

@@ -12,6 +12,7 @@ use c_answers::refusal::number_of;
 use c_side_info::RecordSlices;
 
 // The side information as bytes, and how many of their bits are used.
+// Kept: here and below: C needs each name, and takes numbers and slices by position, in the order of include/folgrist_mp2.h.
 pub fn folgrist_write_side_info(
     lsf: u8,
     bit_rate: u32,

@@ -10,6 +10,7 @@ use c_answers::refusal::number_of;
 use c_subband::table_rows;
 
 // How many subbands a table carries, and the bits of a subband's allocation field.
+// Kept: here and below: C needs each name, and takes numbers and slices by position, in the order of include/folgrist_mp2.h.
 pub fn folgrist_table_limits(table: u8, sb: u64, out: &mut [u32]) -> u32
     ensures { Answers
         (answered

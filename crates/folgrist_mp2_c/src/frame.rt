@@ -6,6 +6,7 @@ ghost use Rattle.c_answers.specs.Replies.{table_selected, frame_sized};
 ghost use Rattle.c_answers.specs.Replies.{budget_fixed, bits_available, bits_demanded, steps_allocated, bits_allocated};
 
 // The allocation table that a header selects.
+// Kept: here and below: C needs each name, and takes numbers and slices by position, in the order of include/folgrist_mp2.h.
 #[unsafe(no_mangle)]
 pub extern "C" fn folgrist_select_table(
     lsf: u8,

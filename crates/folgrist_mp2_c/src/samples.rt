@@ -5,6 +5,7 @@ ghost use Rattle.c_answers.specs.Answers.{asked, answered, Answers};
 ghost use Rattle.c_answers.specs.Replies.{sample_coded, triplet_coded};
 
 // The code of a sample in the class of a number of steps.
+// Kept: here and below: C needs each name, and takes numbers and slices by position, in the order of include/folgrist_mp2.h.
 #[unsafe(no_mangle)]
 pub extern "C" fn folgrist_quantize_sample(steps: u32, sample: f64, out: &mut [u32]) -> u32
     ensures { Answers

@@ -8,6 +8,7 @@ ghost use Rattle.c_side_info.specs.Replies.{bytes_written, bits_written, bytes_c
 ghost use Rattle.c_side_info_read.specs.Replies.{short, steps_read, scfsi_read, indices_read, bits_read};
 
 // The side information as bytes, and how many of their bits are used.
+// Kept: here and below: C needs each name, and takes numbers and slices by position, in the order of include/folgrist_mp2.h.
 #[unsafe(no_mangle)]
 pub extern "C" fn folgrist_write_side_info(
     lsf: u8,

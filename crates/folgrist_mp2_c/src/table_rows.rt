@@ -7,6 +7,7 @@ ghost use Rattle.c_answers.specs.Arguments.{table_meant};
 ghost use Rattle.c_answers.specs.Replies.{limits_at, steps_found, index_found, coefficients, class_figures, snr_found};
 
 // How many subbands a table carries, and the bits of a subband's allocation field.
+// Kept: here and below: C needs each name, and takes numbers and slices by position, in the order of include/folgrist_mp2.h.
 #[unsafe(no_mangle)]
 pub extern "C" fn folgrist_table_limits(table: u8, sb: u64, out: &mut [u32]) -> u32
     ensures { Answers

@@ -18,6 +18,7 @@ pub enum Mode {
 pub struct UnknownMode(pub u64);
 
 // The mode of a code of two bits.
+// Kept: here and for `ModeExtension`: std makes no enum of a number, and one generic over both would need the variants of each as a list besides.
 impl TryFrom<u64> for Mode {
     type Error = UnknownMode;
 
@@ -36,6 +37,7 @@ impl TryFrom<u64> for Mode {
 
 impl Mode {
     // How many channels the mode has.
+    // Kept: each mode with its count, as 2.4.2.3 lists them; no rule makes the count from the code.
     pub fn channels(self) -> usize
         ensures { ChannelsAre self result }
     {
@@ -51,10 +53,10 @@ impl Mode {
 // The mode extension (2.4.2.3): in joint stereo, from which subband on the two channels share their samples.
 #[derive(Clone, Copy, Debug, PartialEq, Eq)]
 pub enum ModeExtension {
-    Bound4,
-    Bound8,
-    Bound12,
-    Bound16,
+    Bound4 = 4,
+    Bound8 = 8,
+    Bound12 = 12,
+    Bound16 = 16,
 }
 
 // A code that names no mode extension.
@@ -83,12 +85,7 @@ impl ModeExtension {
     pub fn bound(self) -> usize
         ensures { BoundIs self result }
     {
-        match self {
-            ModeExtension::Bound4 => 4,
-            ModeExtension::Bound8 => 8,
-            ModeExtension::Bound12 => 12,
-            ModeExtension::Bound16 => 16,
-        }
+        self as usize
     }
 }
 

@@ -5,6 +5,7 @@ ghost use Rattle.std.specs.Prelude.{◌≡◌};
 ghost use Rattle.ieee_order.specs.Order.{abs_of, max_of, min_of};
 
 // The magnitude. Both zeros give +0.0.
+// Kept: std's `abs`, under the definition that the encoder's contracts speak of.
 pub fn abs(x: f64) -> f64
     ensures { result ≡ abs_of x }
 {
@@ -12,7 +13,7 @@ pub fn abs(x: f64) -> f64
 }
 
 // The larger of two, as `f64::max`: a NaN beside a number yields the number, and of two that compare equal the first is taken.
-// Std's own says of those only that it is one of the two, so that which zero comes out could not be proved.
+// Kept: of two that compare equal std's `max` and `min` promise only one of them, so that which zero comes out could not be proved.
 pub fn max(a: f64, b: f64) -> f64
     ensures { result ≡ max_of a b }
 {

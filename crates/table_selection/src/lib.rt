@@ -36,6 +36,7 @@ fn free_format_table(sample_rate: u32) -> Option<BitAllocTable>
     }
 }
 
+// Kept: each frequency with its rates, as the headings of the tables print them; a list of them would have to be searched and says the same.
 fn table_for(sample_rate: u32, per_channel: u32) -> Option<BitAllocTable>
     ensures { result ≡ table_at sample_rate (kbps (Some per_channel)) }
 {

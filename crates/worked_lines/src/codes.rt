@@ -51,6 +51,7 @@ pub fn samples(rt: &impl Print) -> io::Result<()> {
 }
 
 // The code of a sample; where the steps have no class, a number that no code is.
+// Kept: std's `map_or`, said once for the six codes that are asked.
 fn code(nb_steps: u32, sample: f64) -> u64 {
     encoder_samples::quantize_sample_for(nb_steps, sample).map_or(u64::MAX, u64::from)
 }
