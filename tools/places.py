@@ -239,29 +239,36 @@ POINTS = [
 
 
 def reasons(text):
-    """By the name of a function, struct or enum: the reasons beside it; by the empty name those at the file's head."""
+    """By the name of a function, struct or enum: the reasons beside it; by the empty name those at the file's head.
+
+    A reason above an `impl` is one of each function in it; one that begins with "here and below" is one of each item from there on.
+    """
     found = collections.defaultdict(list)
-    lines = text.split("\n")
-    above, inside, head = [], "", True
-    for line in lines:
-        bare_line = line.strip()
-        reason = re.match(r"// Kept: (.*)", bare_line)
-        item = re.match(r"(?:pub(?:\(crate\))? )?(?:const )?(?:fn|struct|enum) (\w+)", bare_line)
-        if head and not bare_line.startswith("//"):
+    above, block, below, inside, head = [], [], [], "", True
+    for line in text.split("\n"):
+        said = line.strip()
+        reason = re.match(r"// Kept: (.*)", said)
+        item = re.match(r"(?:pub(?:\(crate\))? )?(?:const )?(?:fn|struct|enum|trait) (\w+)", said)
+        if head and not said.startswith("//"):
             found[""] += above
             head, above = False, []
         if reason:
             above.append(reason.group(1))
             if inside:
                 found[inside].append(reason.group(1))
+        elif said.startswith("impl"):
+            block, above = above, []
         elif item:
             inside = item.group(1)
-            found[inside] += above
+            below += [r for r in above if r.startswith("here and below")]
+            found[inside] += above + block + below
             above = []
-        elif bare_line and not bare_line.startswith(("//", "#[")):
+        elif said and not said.startswith(("//", "#[")):
             above = []
-        if line == "}" or line == "    }":
+        if line in ("}", "    }"):
             inside = ""
+        if line == "}":
+            block = []
     return found
 
 
