@@ -4,3 +4,4 @@ pub mod ServedLaws
 pub mod HeaderLaws
 pub mod WireLaws
 pub mod SumLaws
+pub mod RowLaws

@@ -1,6 +1,5 @@
 // Signal-to-mask ratios that come in one row of slots, as the two rows of 32 that the demand and the allocation take.
-ghost use Rattle.std.specs.Prelude.{◌≡◌, ◌<◌, get_or};
-ghost use Rattle.std.specs.Float.{nan};
+ghost use Rattle.std.specs.Prelude.{◌≡◌, ◌<◌};
 ghost use Rattle.layout.specs.Slots.{smr_row, smr_rows};
 
 // The ratios by channel and subband; a NaN where the slice is too short.
@@ -15,16 +14,11 @@ fn row(by_slot: &[f64], channel: usize) -> [f64; 32]
     requires { channel < 2 }
     ensures { result ≡ smr_row by_slot.now channel }
 {
+    let first = 32 * channel;
+    let there = by_slot.len().saturating_sub(first).min(32);
     let mut ratios = [f64::NAN; 32];
-    for sb in 0..32 {
-        ratios[sb] = smr_at(by_slot, 32 * channel + sb);
+    for sb in 0..there {
+        ratios[sb] = by_slot[first + sb];
     }
     ratios
-}
-
-// The ratio of one slot.
-fn smr_at(by_slot: &[f64], slot: usize) -> f64
-    ensures { result ≡ get_or by_slot.now slot nan }
-{
-    by_slot.get(slot).copied().unwrap_or(f64::NAN)
 }
