@@ -102,6 +102,7 @@ module _ (t : Three) where
       go (inl same) = same
       go (inr more) = absurd (omega arith)
 
+  -- the definition keeps all that is promised of it
   fewest_is : (r : Scfsi) → r ≡ fewest_scfsi t → FewestIs t r
   fewest_is r e = subst (FewestIs t) (sym e) (record {
     whole = refl;

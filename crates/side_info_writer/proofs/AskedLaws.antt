@@ -1,16 +1,15 @@
 -- The questions as they are asked one after the other: those before were answered yes, so that those to come decide.
 use mathlib.Core.Path.{◌≡◌, sym, ap, ap₂, ◌∙◌}
-use mathlib.Core.Bool.{true, false, true≢false}
+use mathlib.Core.Bool.{true}
 use mathlib.Core.List.{List, ◌∷◌, ◌++◌, append_assoc, map, flat_map}
 use Prim.Native.Nat.{ℕ, ◌+◌, ◌≤◌, ◌<◌}
 use native.Mathlib.Numerals.{add-one}
-use native.Mathlib.Omega.{arith}
-use lib.ListN.{length, get_or, drop, drop_of_length-le}
+use lib.ListN.{length, get_or, drop}
 use lib.Seq.{drop-cons}
 use borrow.Author.Count.{below_more}
 use Rattle.std.specs.Prelude.{Ok, Err}
 use Rattle.header.specs.Questions.{Question, number}
-use Rattle.header.proofs.QuestionLaws.{said_yes, said_no}
+use Rattle.header.proofs.QuestionLaws.{said_yes}
 use Rattle.layout.specs.declared.Layout.{Layout}
 use Rattle.layout.specs.declared.AllocationField.{AllocationField}
 use Rattle.layout.specs.Layout.{own, fields_of, field_in}
@@ -19,7 +18,7 @@ use Rattle.side_info.specs.SideInfo.{field_asked, scalefactor_asked}
 use Rattle.side_info.proofs.FlatLaws.{flat_next, flat_end}
 use Rattle.side_info_writer.specs.declared.WriteError.{WriteError}
 use Rattle.side_info_writer.specs.Written.{error_number}
-use Rattle.side_info_writer.specs.OnTheWay.{found, Passed, Stopped, TabledAre}
+use Rattle.side_info_writer.specs.OnTheWay.{found, Passed, Stopped}
 use Rattle.side_info_writer.proofs.PlaceLaws.{place_passes, place_stops}
 
 -- ---- question 8, slot by slot
@@ -44,15 +43,6 @@ module _ (slots : List ℕ) (r : SideInfo) where
       decides = next ∙ said_yes 0 (asked slot) (map asked (drop (k + 1) slots)) t;
       each = below_more (λ j. (asked (get_or slots j 0)).yes ≡ true) k so_far.each (rw (← e) t);
     }
-
-    pub one_not : (asked slot).yes ≡ false → TabledAre slots r false
-    one_not t = record { answer = next ∙ said_no 0 (asked slot) (map asked (drop (k + 1) slots)) t; each = λ z. absurd (true≢false (sym z)) }
-
-  pub all_tabled : (k : ℕ) → length slots ≤ k → TabledTo k → TabledAre slots r true
-  all_tabled k h so_far = record {
-    answer = so_far.decides ∙ ap (λ (xs : List ℕ). number (map asked xs)) (drop_of_length-le slots {i = k} h);
-    each = λ z. record { yes = λ j m. so_far.each j (omega arith) };
-  }
 
 -- ---- questions 6 and 7, field by field
 
