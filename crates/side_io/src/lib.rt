@@ -20,8 +20,7 @@ impl Answer for SideShow {
     ghost page = { side_of };
 
     fn line(&self, words: &[u8], input: &[u8], n: usize) -> Option<Line> {
-        let side = side_show::side_line(words, input, n);
-        if side.there { Some(side.line) } else { None }
+        side_show::side_line(words, input, n)
     }
 }
 
