@@ -1,5 +1,5 @@
 -- `side_page::page_line` meets its contract.
-use Rattle.std.proofs.Common.{◌≡◌, ap, sym, ◌∙◌, refl, Ok, Err}
+use Rattle.std.proofs.Common.{refl}
 use Rattle.text_line.proofs.PageLaws.{moved}
 use Rattle.side_page.proofs.PageLaws.{page_accepted, page_refused, refused_number}
 use Rattle.side_page.proofs.page_line.Goals as goal
