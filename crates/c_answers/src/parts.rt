@@ -10,6 +10,7 @@ use encoder_scfsi::ScfsiSelection;
 use quantization::QuantClass;
 
 // What C takes of an answer: a number, 0 where there is a value, and the value, or what stands in its place beside a refusal.
+// Kept: C takes a number and a value from every call, beside a refusal too; a `Result` would have no value there.
 #[derive(Clone, Copy)]
 pub struct Told<T> {
     pub number: u32,

@@ -28,6 +28,7 @@ fn snr_table() -> &'static [f64; 18]
 }
 
 // The row of the table that has a number of steps.
+// Kept: the arms are the rows of Table C.5 by their steps; the long ones follow from the digits, without a search.
 fn snr_row(nb_steps: u32) -> Option<usize>
     ensures { result ≡ row_number nb_steps }
 {
