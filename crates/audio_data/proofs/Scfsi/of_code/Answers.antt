@@ -1,6 +1,7 @@
 -- `audio_data::Scfsi::of_code` meets its contract: a code that is not 0, 1 or 2 has the last scfsi.
 use Prim.Native.Nat.{ℕ, zero, suc}
 use mathlib.Core.Path.{◌≡◌, refl}
+use borrow.Author.Rules.{rules}
 use Rattle.audio_data.specs.declared.Scfsi.TheVariants.{Share0Then12}
 use Rattle.audio_data.specs.Scfsi.{of_code}
 use Rattle.audio_data.proofs.Scfsi.of_code.Goals as goal
@@ -12,4 +13,4 @@ last (suc (suc zero)) a b c = absurd (c refl)
 last (suc (suc (suc n))) a b c = refl
 
 pub returns-in_default : goal.returns-in_default
-returns-in_default c = last c.args.code c.in_default.in_default-own.rest.0.0.1 c.in_default.in_default-own.rest.0.1 c.in_default.in_default-own.rest.1
+returns-in_default c = last c.args.code (search rules) (search rules) (search rules)
