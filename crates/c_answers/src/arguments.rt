@@ -41,12 +41,8 @@ impl TryFrom<HeaderNumbers> for FrameHeader {
 
     #[tactic(auto, unfolding(crate::specs::Arguments::header_in))]
     fn try_from(given: HeaderNumbers) -> Result<FrameHeader, Refusal> {
-        let Ok(mode) = Mode::try_from(u64::from(given.mode)) else {
-            return Err(Refusal::NoMeaning);
-        };
-        let Ok(mode_extension) = ModeExtension::try_from(u64::from(given.mode_extension)) else {
-            return Err(Refusal::NoMeaning);
-        };
+        let mode = Mode::try_from(u64::from(given.mode))?;
+        let mode_extension = ModeExtension::try_from(u64::from(given.mode_extension))?;
         Ok(FrameHeader {
             lsf: flag(given.lsf)?,
             bit_rate: given.bit_rate,
@@ -79,8 +75,6 @@ pub fn table(short: bool, number: u8) -> Result<BitAllocTable, Refusal>
     if short {
         return Err(Refusal::Short);
     }
-    let Ok(table) = BitAllocTable::try_from(u64::from(number)) else {
-        return Err(Refusal::NoMeaning);
-    };
+    let table = BitAllocTable::try_from(u64::from(number))?;
     Ok(table)
 }
