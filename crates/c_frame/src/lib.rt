@@ -15,6 +15,7 @@ use c_answers::arguments::HeaderNumbers;
 use c_answers::parts::Told;
 use c_answers::refusal::Refusal;
 use c_answers::writing;
+use bitalloc::BitAllocTable;
 use encoder_bit_budget::{BitAllocError, FixedBitBudget};
 use layout::slots;
 
@@ -25,12 +26,10 @@ pub fn select_table(given: HeaderNumbers, out: &mut [u32]) -> Result<u32, Refusa
         out.old (number_in result) out.new }
 {
     let header = given.header(out.len() < 1)?;
-    let (number, table) = match table_selection::select_table(header) {
-        Some(selected) => (0, selected.number()),
-        None => (1, 0),
-    };
-    out[0] = table;
-    Ok(number)
+    let selected = table_selection::select_table(header).ok_or(BitAllocError::NoBitallocTable);
+    let table = Told::of_result(selected.map(BitAllocTable::number), 0);
+    out[0] = table.value;
+    Ok(table.number)
 }
 
 // The length of the frame in bytes.
@@ -40,7 +39,8 @@ pub fn frame_size_bytes(given: HeaderNumbers, out: &mut [u64]) -> Result<u32, Re
         out.old (number_in result) out.new }
 {
     let header = given.header(out.len() < 1)?;
-    let size = Told::of_option(header.frame_size_bytes(), 2, 0);
+    let bytes = header.frame_size_bytes().ok_or(BitAllocError::ZeroSampleRate);
+    let size = Told::of_result(bytes, 0);
     out[0] = size.value;
     Ok(size.number)
 }
@@ -52,12 +52,10 @@ pub fn fixed_bit_budget(given: HeaderNumbers, out: &mut [u32]) -> Result<u32, Re
         out.old (number_in result) out.new }
 {
     let header = given.header(out.len() < 8)?;
-    let (budget_number, values) = match encoder_bit_budget::fixed_bit_budget(header) {
-        Ok(budget) => (0, budget_values(budget)),
-        Err(error) => (error.number(), [0; 8]),
-    };
-    writing::put(&values, out);
-    Ok(budget_number)
+    let answer = encoder_bit_budget::fixed_bit_budget(header);
+    let budget = Told::of_result(answer.map(budget_values), [0; 8]);
+    writing::put(&budget.value, out);
+    Ok(budget.number)
 }
 
 // A budget as C has it.
@@ -130,6 +128,7 @@ pub fn allocate_bits(
 {
     let header = given.header((smr_db.len() < 64) | ((steps.len() < 64) | (out.len() < 4)))?;
     let allocation = encoder_bit_allocator::allocate_bits(header, slots::rows(smr_db), banc);
+    // Kept: a refusal has values of its own beside its number (`shortfall`), where `Told` has the same filler for all.
     let (allocation_number, held, values) = match allocation {
         Ok(allocated) => {
             let held = allocated.audio.nb_steps;
