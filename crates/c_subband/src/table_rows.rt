@@ -75,7 +75,7 @@ pub fn class_of_quantization(steps: u32, cd: &mut [f64], out: &mut [u32]) -> Res
     room(cd.len(), 2)?;
     room(out.len(), 4)?;
     let class = quantization::class_of_quantization(steps);
-    let coefficients = Told::of_option(class.map(coefficients), NO_CLASS, [0.0; 2]);
+    let coefficients = Told::of_option(class.map(c_and_d), NO_CLASS, [0.0; 2]);
     let figures = Told::of_option(class.map(parts::figures), NO_CLASS, [0; 4]);
     writing::put(&coefficients.value, cd);
     writing::put(&figures.value, out);
@@ -83,7 +83,7 @@ pub fn class_of_quantization(steps: u32, cd: &mut [f64], out: &mut [u32]) -> Res
 }
 
 // C and D of 2.4.3.3.4.
-fn coefficients(class: QuantClass) -> [f64; 2]
+fn c_and_d(class: QuantClass) -> [f64; 2]
     ensures { result ≡ class.c ∷ class.d ∷ [] }
 {
     [class.c, class.d]
