@@ -19,7 +19,8 @@ pub fn table_limits(table: u8, sb: u64, out: &mut [u32]) -> Result<u32, Refusal>
         (limits_at sb))
         out.old (number_in result) out.new }
 {
-    let t = arguments::table(out.len() < 2, table)?;
+    room(out.len(), 2)?;
+    let t = arguments::table(table)?;
     writing::put(&parts::limits(t, sb as usize), out);
     Ok(0)
 }
@@ -33,7 +34,8 @@ pub fn nb_steps(table: u8, sb: u64, index: u32, out: &mut [u32]) -> Result<u32, 
         (steps_found sb index))
         out.old (number_in result) out.new }
 {
-    let t = arguments::table(out.len() < 1, table)?;
+    room(out.len(), 1)?;
+    let t = arguments::table(table)?;
     put_found(t.nb_steps(sb as usize, index), out)
 }
 
@@ -45,7 +47,8 @@ pub fn allocation_index(table: u8, sb: u64, steps: u32, out: &mut [u32]) -> Resu
         (index_found sb steps))
         out.old (number_in result) out.new }
 {
-    let t = arguments::table(out.len() < 1, table)?;
+    room(out.len(), 1)?;
+    let t = arguments::table(table)?;
     put_found(t.allocation_index(sb as usize, steps), out)
 }
 
