@@ -13,11 +13,11 @@ ghost use Rattle.c_answers.specs.declared.refusal.Refusal.TheVariants.{Short};
 ghost use Rattle.c_answers.specs.Replies.{table_selected, frame_sized, budget_values};
 ghost use Rattle.c_answers.specs.Replies.{budget_fixed, bits_available, bits_demanded, steps_allocated, bits_allocated, allocation_values};
 
+use bitalloc::BitAllocTable;
 use c_answers::arguments::HeaderNumbers;
 use c_answers::parts::Told;
 use c_answers::refusal::{Refusal, room};
 use c_answers::writing;
-use bitalloc::BitAllocTable;
 use encoder_bit_budget::{BitAllocError, FixedBitBudget};
 use header::FrameHeader;
 use layout::slots;
@@ -44,7 +44,9 @@ pub fn frame_size_bytes(given: HeaderNumbers, out: &mut [u64]) -> Result<u32, Re
 {
     room(out.len(), 1)?;
     let header = FrameHeader::try_from(given)?;
-    let bytes = header.frame_size_bytes().ok_or(BitAllocError::ZeroSampleRate);
+    let bytes = header
+        .frame_size_bytes()
+        .ok_or(BitAllocError::ZeroSampleRate);
     let size = Told::of_result(bytes, 0);
     out[0] = size.value;
     Ok(size.number)

@@ -4,7 +4,7 @@ ghost use Rattle.c_answers.specs.Answers.{asked, answered, Answers};
 ghost use Rattle.c_answers.specs.Refusals.{number_in};
 ghost use Rattle.c_answers.specs.Replies.{sample_coded, triplet_coded};
 
-use c_answers::parts::{Told, NO_CLASS};
+use c_answers::parts::{NO_CLASS, Told};
 use c_answers::refusal::{Refusal, room};
 use c_answers::{parts, writing};
 

@@ -5,7 +5,7 @@ ghost use Rattle.c_answers.specs.Arguments.{table_meant};
 ghost use Rattle.c_answers.specs.Refusals.{number_in};
 ghost use Rattle.c_answers.specs.Replies.{limits_at, steps_found, index_found, coefficients, class_figures, snr_found};
 
-use c_answers::parts::{Told, NO_CLASS};
+use c_answers::parts::{NO_CLASS, Told};
 use c_answers::refusal::{Refusal, room};
 use c_answers::{arguments, parts, writing};
 use quantization::QuantClass;
