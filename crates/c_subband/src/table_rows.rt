@@ -85,7 +85,7 @@ pub fn class_of_quantization(steps: u32, cd: &mut [f64], out: &mut [u32]) -> Res
     Ok(figures.number)
 }
 
-// C and D of 2.4.3.3.4.
+// The coefficients C and D of a class.
 fn c_and_d(class: QuantClass) -> [f64; 2]
     ensures { result ≡ class.c ∷ class.d ∷ [] }
 {
