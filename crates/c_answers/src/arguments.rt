@@ -23,7 +23,7 @@ pub struct HeaderNumbers {
 
 impl HeaderNumbers {
     // The header that they mean; refused where a slice of the call is short, or where one of them means nothing.
-    // Kept: that slices are asked about before numbers stands here once; without the flag each caller would have to test and return first.
+    // Kept: the clauses of the calls with a record speak of all their slices in one Bool; it is asked about here, before the numbers.
     pub fn header(self, short: bool) -> Result<FrameHeader, Refusal>
         ensures { meaning_in result ≡ asked short (header_numbered self) }
     {
@@ -41,12 +41,8 @@ impl TryFrom<HeaderNumbers> for FrameHeader {
 
     #[tactic(auto, unfolding(crate::specs::Arguments::header_in))]
     fn try_from(given: HeaderNumbers) -> Result<FrameHeader, Refusal> {
-        let Ok(mode) = Mode::try_from(u64::from(given.mode)) else {
-            return Err(Refusal::NoMeaning);
-        };
-        let Ok(mode_extension) = ModeExtension::try_from(u64::from(given.mode_extension)) else {
-            return Err(Refusal::NoMeaning);
-        };
+        let mode = Mode::try_from(u64::from(given.mode))?;
+        let mode_extension = ModeExtension::try_from(u64::from(given.mode_extension))?;
         Ok(FrameHeader {
             lsf: flag(given.lsf)?,
             bit_rate: given.bit_rate,
@@ -71,16 +67,10 @@ fn flag(number: u8) -> Result<bool, Refusal>
     }
 }
 
-// The table of a number; refused where a slice of the call is short, or where the number means nothing.
-// Kept: the flag as in `HeaderNumbers::header`: slices are asked about before the number.
-pub fn table(short: bool, number: u8) -> Result<BitAllocTable, Refusal>
-    ensures { meaning_in result ≡ table_meant short number }
+// The table of a number; refused where the number means nothing.
+pub fn table(number: u8) -> Result<BitAllocTable, Refusal>
+    ensures { meaning_in result ≡ table_meant false number }
 {
-    if short {
-        return Err(Refusal::Short);
-    }
-    let Ok(table) = BitAllocTable::try_from(u64::from(number)) else {
-        return Err(Refusal::NoMeaning);
-    };
+    let table = BitAllocTable::try_from(u64::from(number))?;
     Ok(table)
 }

@@ -9,8 +9,11 @@ use encoder_samples::Triplet;
 use encoder_scfsi::ScfsiSelection;
 use quantization::QuantClass;
 
+// The number that is answered where the steps are none of the seventeen classes of quantization.
+pub const NO_CLASS: u32 = 5;
+
 // What C takes of an answer: a number, 0 where there is a value, and the value, or what stands in its place beside a refusal.
-// Kept: C takes a number and a value from every call, beside a refusal too; a `Result` would have no value there.
+// Kept: C takes the number as the call's answer and finds values in its slice beside a refusal too, so both are there at once.
 #[derive(Clone, Copy)]
 pub struct Told<T> {
     pub number: u32,

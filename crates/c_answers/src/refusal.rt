@@ -1,6 +1,10 @@
 // By which number a call is refused.
-ghost use Rattle.std.specs.Prelude.{◌≡◌};
+ghost use Rattle.std.specs.Prelude.{◌≡◌, ◌<◌, ◌≤◌, MatchResult};
 ghost use Rattle.c_answers.specs.Refusals.{refusal_number, number_in};
+ghost use Rattle.c_answers.specs.declared.refusal.Refusal.TheVariants.{Short, NoMeaning};
+
+use bitalloc::UnknownTable;
+use header::{UnknownExtension, UnknownMode};
 
 // Why a call writes nothing.
 #[derive(Clone, Copy, Debug, PartialEq, Eq)]
@@ -25,6 +29,40 @@ impl Refusal {
             Refusal::Nothing => 97,
         }
     }
+}
+
+impl From<UnknownMode> for Refusal {
+    ghost from_gives = { λ number refusal. refusal ≡ NoMeaning };
+
+    fn from(_: UnknownMode) -> Refusal {
+        Refusal::NoMeaning
+    }
+}
+
+impl From<UnknownExtension> for Refusal {
+    ghost from_gives = { λ number refusal. refusal ≡ NoMeaning };
+
+    fn from(_: UnknownExtension) -> Refusal {
+        Refusal::NoMeaning
+    }
+}
+
+impl From<UnknownTable> for Refusal {
+    ghost from_gives = { λ number refusal. refusal ≡ NoMeaning };
+
+    fn from(_: UnknownTable) -> Refusal {
+        Refusal::NoMeaning
+    }
+}
+
+// Whether a slice of `len` elements has room for `wanted`, or as many to read.
+pub fn room(len: usize, wanted: usize) -> Result<(), Refusal>
+    ensures { MatchResult result (λ done. wanted ≤ len) (λ refusal. (refusal ≡ Short) × (len < wanted)) }
+{
+    if len < wanted {
+        return Err(Refusal::Short);
+    }
+    Ok(())
 }
 
 // The number that a call answers: its own, or that of its refusal.

@@ -2,7 +2,7 @@
 ghost use Rattle.std.specs.Prelude.{◌≡◌, ◌≤◌, length};
 ghost use Rattle.c_answers.specs.Answers.{written, fitted};
 
-// Kept: `copy_from_slice` wants equal lengths, and a caller's slice may be longer or shorter than the values.
+// Kept: `copy_from_slice` asks for equal lengths: a caller's slice is often longer than the values, and `front` says what becomes of a shorter one.
 pub fn put<T: Copy>(values: &[T], out: &mut [T])
     ensures front { out.new ≡ fitted values.now out.old }
     ensures whole { length values.now ≤ length out.old → out.new ≡ written values.now out.old }

@@ -2,20 +2,24 @@
 // under the same contract; here the slices' lengths are asked about first (98), then what the numbers mean (14), then what the function itself asks.
 #![tactic(auto)]
 
-ghost use Rattle.std.specs.Prelude.{◌≡◌, ◌||◌, ltb, length, Err};
+ghost use Rattle.std.specs.Prelude.{◌≡◌, ◌||◌, ◌<◌, ◌≤◌, ltb, length, Err, MatchResult};
+ghost use Rattle.layout.specs.Slots.{smr_rows};
 ghost use Rattle.encoder_bit_budget.specs.Budget.{Bounded};
 ghost use Rattle.encoder_bit_allocator.specs.Allocation.{answer_in};
 ghost use Rattle.c_answers.specs.Answers.{asked, answered, Answers};
 ghost use Rattle.c_answers.specs.Arguments.{header_numbered};
 ghost use Rattle.c_answers.specs.Refusals.{number_in};
+ghost use Rattle.c_answers.specs.declared.refusal.Refusal.TheVariants.{Short};
 ghost use Rattle.c_answers.specs.Replies.{table_selected, frame_sized, budget_values};
 ghost use Rattle.c_answers.specs.Replies.{budget_fixed, bits_available, bits_demanded, steps_allocated, bits_allocated, allocation_values};
 
+use bitalloc::BitAllocTable;
 use c_answers::arguments::HeaderNumbers;
 use c_answers::parts::Told;
-use c_answers::refusal::Refusal;
+use c_answers::refusal::{Refusal, room};
 use c_answers::writing;
 use encoder_bit_budget::{BitAllocError, FixedBitBudget};
+use header::FrameHeader;
 use layout::slots;
 
 // The allocation table that a header selects.
@@ -24,13 +28,12 @@ pub fn select_table(given: HeaderNumbers, out: &mut [u32]) -> Result<u32, Refusa
         (answered (asked (ltb (length out.old) 1) (header_numbered given)) table_selected)
         out.old (number_in result) out.new }
 {
-    let header = given.header(out.len() < 1)?;
-    let (number, table) = match table_selection::select_table(header) {
-        Some(selected) => (0, selected.number()),
-        None => (1, 0),
-    };
-    out[0] = table;
-    Ok(number)
+    room(out.len(), 1)?;
+    let header = FrameHeader::try_from(given)?;
+    let selected = table_selection::select_table(header).ok_or(BitAllocError::NoBitallocTable);
+    let table = Told::of_result(selected.map(BitAllocTable::number), 0);
+    out[0] = table.value;
+    Ok(table.number)
 }
 
 // The length of the frame in bytes.
@@ -39,8 +42,12 @@ pub fn frame_size_bytes(given: HeaderNumbers, out: &mut [u64]) -> Result<u32, Re
         (answered (asked (ltb (length out.old) 1) (header_numbered given)) frame_sized)
         out.old (number_in result) out.new }
 {
-    let header = given.header(out.len() < 1)?;
-    let size = Told::of_option(header.frame_size_bytes(), 2, 0);
+    room(out.len(), 1)?;
+    let header = FrameHeader::try_from(given)?;
+    let bytes = header
+        .frame_size_bytes()
+        .ok_or(BitAllocError::ZeroSampleRate);
+    let size = Told::of_result(bytes, 0);
     out[0] = size.value;
     Ok(size.number)
 }
@@ -51,13 +58,12 @@ pub fn fixed_bit_budget(given: HeaderNumbers, out: &mut [u32]) -> Result<u32, Re
         (answered (asked (ltb (length out.old) 8) (header_numbered given)) budget_fixed)
         out.old (number_in result) out.new }
 {
-    let header = given.header(out.len() < 8)?;
-    let (budget_number, values) = match encoder_bit_budget::fixed_bit_budget(header) {
-        Ok(budget) => (0, budget_values(budget)),
-        Err(error) => (error.number(), [0; 8]),
-    };
-    writing::put(&values, out);
-    Ok(budget_number)
+    room(out.len(), 8)?;
+    let header = FrameHeader::try_from(given)?;
+    let answer = encoder_bit_budget::fixed_bit_budget(header);
+    let budget = Told::of_result(answer.map(budget_values), [0; 8]);
+    writing::put(&budget.value, out);
+    Ok(budget.number)
 }
 
 // A budget as C has it.
@@ -84,7 +90,8 @@ pub fn available_data_bits(given: HeaderNumbers, banc: u32, out: &mut [i64]) -> 
         (answered (asked (ltb (length out.old) 1) (header_numbered given)) (bits_available banc))
         out.old (number_in result) out.new }
 {
-    let header = given.header(out.len() < 1)?;
+    room(out.len(), 1)?;
+    let header = FrameHeader::try_from(given)?;
     let offer = Told::of_result(encoder_bit_budget::available_data_bits(header, banc), 0);
     out[0] = offer.value;
     Ok(offer.number)
@@ -98,11 +105,21 @@ pub fn demand_bits(given: HeaderNumbers, smr_db: &[f64], out: &mut [u64]) -> Res
         (bits_demanded smr_db.now))
         out.old (number_in result) out.new }
 {
-    let header = given.header((smr_db.len() < 64) | (out.len() < 1))?;
-    let answer = encoder_bit_demand::demand_bits(header, slots::rows(smr_db));
+    let ratios = rows(smr_db)?;
+    room(out.len(), 1)?;
+    let header = FrameHeader::try_from(given)?;
+    let answer = encoder_bit_demand::demand_bits(header, ratios);
     let demand = Told::of_result(answer, 0);
     out[0] = demand.value;
     Ok(demand.number)
+}
+
+// The ratios by channel and subband; refused where there are not 64.
+fn rows(smr_db: &[f64]) -> Result<[[f64; 32]; 2], Refusal>
+    ensures { MatchResult result (λ rows. (64 ≤ length smr_db.now) × (rows ≡ smr_rows smr_db.now)) (λ refusal. (refusal ≡ Short) × (length smr_db.now < 64)) }
+{
+    room(smr_db.len(), 64)?;
+    Ok(slots::rows(smr_db))
 }
 
 // The steps of each slot, and the bits left.
@@ -128,8 +145,12 @@ pub fn allocate_bits(
         (bits_allocated smr_db.now banc))
         out.old (number_in result) out.new }
 {
-    let header = given.header((smr_db.len() < 64) | ((steps.len() < 64) | (out.len() < 4)))?;
-    let allocation = encoder_bit_allocator::allocate_bits(header, slots::rows(smr_db), banc);
+    let ratios = rows(smr_db)?;
+    room(steps.len(), 64)?;
+    room(out.len(), 4)?;
+    let header = FrameHeader::try_from(given)?;
+    let allocation = encoder_bit_allocator::allocate_bits(header, ratios, banc);
+    // Kept: a refusal has values of its own beside its number (`shortfall`), where `Told` has the same filler for all.
     let (allocation_number, held, values) = match allocation {
         Ok(allocated) => {
             let held = allocated.audio.nb_steps;

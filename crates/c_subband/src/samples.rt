@@ -4,8 +4,8 @@ ghost use Rattle.c_answers.specs.Answers.{asked, answered, Answers};
 ghost use Rattle.c_answers.specs.Refusals.{number_in};
 ghost use Rattle.c_answers.specs.Replies.{sample_coded, triplet_coded};
 
-use c_answers::parts::Told;
-use c_answers::refusal::Refusal;
+use c_answers::parts::{NO_CLASS, Told};
+use c_answers::refusal::{Refusal, room};
 use c_answers::{parts, writing};
 
 // The code of a sample in the class of a number of steps.
@@ -17,10 +17,9 @@ pub fn quantize_sample(steps: u32, sample: f64, out: &mut [u32]) -> Result<u32, 
         (sample_coded sample))
         out.old (number_in result) out.new }
 {
-    if out.len() < 1 {
-        return Err(Refusal::Short);
-    }
-    let code = Told::of_option(encoder_samples::quantize_sample_for(steps, sample), 5, 0);
+    room(out.len(), 1)?;
+    let found = encoder_samples::quantize_sample_for(steps, sample);
+    let code = Told::of_option(found, NO_CLASS, 0);
     out[0] = code.value;
     Ok(code.number)
 }
@@ -33,13 +32,9 @@ pub fn write_triplet(steps: u32, a: f64, b: f64, c: f64, out: &mut [u32]) -> Res
         (triplet_coded (a ∷ b ∷ c ∷ [])))
         out.old (number_in result) out.new }
 {
-    if out.len() < 5 {
-        return Err(Refusal::Short);
-    }
-    let (number, values) = match encoder_samples::write_triplet_for(steps, [a, b, c]) {
-        Some(triplet) => (0, parts::triplet_values(triplet)),
-        None => (5, [0; 5]),
-    };
-    writing::put(&values, out);
-    Ok(number)
+    room(out.len(), 5)?;
+    let found = encoder_samples::write_triplet_for(steps, [a, b, c]);
+    let triplet = Told::of_option(found.map(parts::triplet_values), NO_CLASS, [0; 5]);
+    writing::put(&triplet.value, out);
+    Ok(triplet.number)
 }

@@ -4,7 +4,7 @@ ghost use Rattle.c_answers.specs.Answers.{asked, answered, Answers};
 ghost use Rattle.c_answers.specs.Refusals.{number_in};
 ghost use Rattle.c_answers.specs.Replies.{granule_indexed, subband_rows, frame_indexed, scfsi_selected};
 
-use c_answers::refusal::Refusal;
+use c_answers::refusal::{Refusal, room};
 use c_answers::{parts, writing};
 
 // Which of three scalefactor indices are used, and which are transmitted.
@@ -16,9 +16,7 @@ pub fn select_scfsi(a: u8, b: u8, c: u8, out: &mut [u8]) -> Result<u32, Refusal>
         scfsi_selected)
         out.old (number_in result) out.new }
 {
-    if out.len() < 9 {
-        return Err(Refusal::Short);
-    }
+    room(out.len(), 9)?;
     let selection = encoder_scfsi::select_scfsi([a, b, c]);
     writing::put(&parts::selection_values(selection), out);
     Ok(0)
@@ -33,9 +31,7 @@ pub fn extract_scalefactor_index(samples: &[f64], out: &mut [u8]) -> Result<u32,
         out.old (number_in result) out.new }
 {
     let granule = samples.first_chunk().ok_or(Refusal::Short)?;
-    if out.len() < 1 {
-        return Err(Refusal::Short);
-    }
+    room(out.len(), 1)?;
     out[0] = encoder_scalefactors::extract_scalefactor_index(granule);
     Ok(0)
 }
@@ -50,9 +46,7 @@ pub fn compute_scalefactors(samples: &[f64], limit: u64, out: &mut [u8]) -> Resu
         out.old (number_in result) out.new }
 {
     let rows = subband_rows(samples).ok_or(Refusal::Short)?;
-    if out.len() < 96 {
-        return Err(Refusal::Short);
-    }
+    room(out.len(), 96)?;
     let indices = encoder_scalefactors::compute_scalefactors(rows, limit as usize);
     writing::put(indices.as_flattened(), out);
     Ok(0)

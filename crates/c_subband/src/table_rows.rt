@@ -1,13 +1,14 @@
 // What a table says of a subband, and the class of quantization and the signal-to-noise ratio of a number of steps.
-ghost use Rattle.std.specs.Prelude.{◌||◌, ◌≤◌, ltb, length, Some};
+ghost use Rattle.std.specs.Prelude.{◌||◌, ◌≡◌, ◌≤◌, [], ◌∷◌, ltb, length, Some};
 ghost use Rattle.c_answers.specs.Answers.{asked, answered, or_nothing, Answers};
 ghost use Rattle.c_answers.specs.Arguments.{table_meant};
 ghost use Rattle.c_answers.specs.Refusals.{number_in};
 ghost use Rattle.c_answers.specs.Replies.{limits_at, steps_found, index_found, coefficients, class_figures, snr_found};
 
-use c_answers::parts::Told;
-use c_answers::refusal::Refusal;
+use c_answers::parts::{NO_CLASS, Told};
+use c_answers::refusal::{Refusal, room};
 use c_answers::{arguments, parts, writing};
+use quantization::QuantClass;
 
 // How many subbands a table carries, and the bits of a subband's allocation field.
 // Kept: here and below the arguments are those of the C function of the same name, each by itself.
@@ -18,7 +19,8 @@ pub fn table_limits(table: u8, sb: u64, out: &mut [u32]) -> Result<u32, Refusal>
         (limits_at sb))
         out.old (number_in result) out.new }
 {
-    let t = arguments::table(out.len() < 2, table)?;
+    room(out.len(), 2)?;
+    let t = arguments::table(table)?;
     writing::put(&parts::limits(t, sb as usize), out);
     Ok(0)
 }
@@ -32,7 +34,8 @@ pub fn nb_steps(table: u8, sb: u64, index: u32, out: &mut [u32]) -> Result<u32, 
         (steps_found sb index))
         out.old (number_in result) out.new }
 {
-    let t = arguments::table(out.len() < 1, table)?;
+    room(out.len(), 1)?;
+    let t = arguments::table(table)?;
     put_found(t.nb_steps(sb as usize, index), out)
 }
 
@@ -44,7 +47,8 @@ pub fn allocation_index(table: u8, sb: u64, steps: u32, out: &mut [u32]) -> Resu
         (index_found sb steps))
         out.old (number_in result) out.new }
 {
-    let t = arguments::table(out.len() < 1, table)?;
+    room(out.len(), 1)?;
+    let t = arguments::table(table)?;
     put_found(t.allocation_index(sb as usize, steps), out)
 }
 
@@ -53,10 +57,7 @@ fn put_found(found: Option<u32>, out: &mut [u32]) -> Result<u32, Refusal>
     requires { 1 ≤ length out.old }
     ensures { Answers (or_nothing found) out.old (number_in result) out.new }
 {
-    let Some(value) = found else {
-        return Err(Refusal::Nothing);
-    };
-    out[0] = value;
+    out[0] = found.ok_or(Refusal::Nothing)?;
     Ok(0)
 }
 
@@ -74,16 +75,21 @@ pub fn class_of_quantization(steps: u32, cd: &mut [f64], out: &mut [u32]) -> Res
         class_figures)
         out.old (number_in result) out.new }
 {
-    if (cd.len() < 2) | (out.len() < 4) {
-        return Err(Refusal::Short);
-    }
-    let (number, coefficients, figures) = match quantization::class_of_quantization(steps) {
-        Some(class) => (0, [class.c, class.d], parts::figures(class)),
-        None => (5, [0.0; 2], [0; 4]),
-    };
-    writing::put(&coefficients, cd);
-    writing::put(&figures, out);
-    Ok(number)
+    room(cd.len(), 2)?;
+    room(out.len(), 4)?;
+    let class = quantization::class_of_quantization(steps);
+    let coefficients = Told::of_option(class.map(c_and_d), NO_CLASS, [0.0; 2]);
+    let figures = Told::of_option(class.map(parts::figures), NO_CLASS, [0; 4]);
+    writing::put(&coefficients.value, cd);
+    writing::put(&figures.value, out);
+    Ok(figures.number)
+}
+
+// The coefficients C and D of a class.
+fn c_and_d(class: QuantClass) -> [f64; 2]
+    ensures { result ≡ class.c ∷ class.d ∷ [] }
+{
+    [class.c, class.d]
 }
 
 // The signal-to-noise ratio of a number of steps.
@@ -94,10 +100,8 @@ pub fn snr_db(steps: u32, out: &mut [f64]) -> Result<u32, Refusal>
         snr_found)
         out.old (number_in result) out.new }
 {
-    if out.len() < 1 {
-        return Err(Refusal::Short);
-    }
-    let snr = Told::of_option(encoder_bit_demand::snr_db(steps), 5, 0.0);
+    room(out.len(), 1)?;
+    let snr = Told::of_option(encoder_bit_demand::snr_db(steps), NO_CLASS, 0.0);
     out[0] = snr.value;
     Ok(snr.number)
 }

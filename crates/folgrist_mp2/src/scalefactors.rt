@@ -9,6 +9,7 @@ use c_answers::refusal::number_of;
 use c_subband::scalefactors;
 
 // The last index whose multiplier is at least `max_abs`.
+// Kept: here and below: C needs each name, and takes numbers and slices by position, in the order of include/folgrist_mp2.h.
 pub fn folgrist_pick_scalefactor_index(max_abs: f64) -> u8
     ensures { PickIs max_abs result }
 {
@@ -16,7 +17,6 @@ pub fn folgrist_pick_scalefactor_index(max_abs: f64) -> u8
 }
 
 // Which of three scalefactor indices are used, and which are transmitted.
-// Kept: here and below: C needs each name, and takes numbers and slices by position, in the order of include/folgrist_mp2.h.
 pub fn folgrist_select_scfsi(a: u8, b: u8, c: u8, out: &mut [u8]) -> u32
     ensures { Answers
         (answered

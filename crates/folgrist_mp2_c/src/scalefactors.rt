@@ -6,6 +6,7 @@ ghost use Rattle.c_answers.specs.Answers.{asked, answered, Answers};
 ghost use Rattle.c_answers.specs.Replies.{granule_indexed, frame_indexed, scfsi_selected};
 
 // The last index whose multiplier is at least `max_abs`.
+// Kept: here and below: C needs each name, and takes numbers and slices by position, in the order of include/folgrist_mp2.h.
 #[unsafe(no_mangle)]
 pub extern "C" fn folgrist_pick_scalefactor_index(max_abs: f64) -> u8
     ensures { PickIs max_abs result }
@@ -14,7 +15,6 @@ pub extern "C" fn folgrist_pick_scalefactor_index(max_abs: f64) -> u8
 }
 
 // Which of three scalefactor indices are used, and which are transmitted.
-// Kept: here and below: C needs each name, and takes numbers and slices by position, in the order of include/folgrist_mp2.h.
 #[unsafe(no_mangle)]
 pub extern "C" fn folgrist_select_scfsi(a: u8, b: u8, c: u8, out: &mut [u8]) -> u32
     ensures { Answers

@@ -51,7 +51,7 @@ pub fn samples(rt: &impl Print) -> io::Result<()> {
 }
 
 // The code of a sample; where the steps have no class, a number that no code is.
-// Kept: std's `map_or`, said once for the six codes that are asked.
+// Kept: nothing is converted by hand: it is std's `map_or`, with what six calls share, the type and the number where there is no class.
 fn code(nb_steps: u32, sample: f64) -> u64 {
     encoder_samples::quantize_sample_for(nb_steps, sample).map_or(u64::MAX, u64::from)
 }
