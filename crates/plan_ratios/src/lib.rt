@@ -82,28 +82,19 @@ fn nearest_decimal(whole: u64, fraction: u64, places: usize) -> f64
     std::num::nearest_u64_to_f64(digits) / std::num::nearest_u64_to_f64(scale)
 }
 
-// Why `read_ratios` refuses: the line, counted from 1, and how many ratios stand before.
-#[derive(Clone, Copy)]
+// Why `read_ratios` refuses; lines are counted from 1.
+#[derive(Clone, Copy, Debug, PartialEq, Eq)]
 pub enum RatiosError {
     // A token that is no ratio.
-    NotARatio { line: u64, count: usize },
+    NotARatio { line: u64 },
     // A token behind the last slot.
-    TooMany { line: u64, count: usize },
-    // The text ends, with this line, before the last slot is filled.
+    TooMany { line: u64 },
+    // The text ends, with this line, behind `count` ratios, before the last slot is filled.
     TooFew { line: u64, count: usize },
 }
 
-// The ratios of a text: slot 32 * channel + subband, channel 0's first.
-// Kept: no heap, so the ratios fill the front of an array of 64, and how many they are stands beside it.
-#[derive(Clone, Copy)]
-pub struct Ratios {
-    // How many there are; the slots behind them have 0.0.
-    pub count: usize,
-    pub ratios: [f64; 64],
-}
-
-// The ratios of a text, one for each slot, in their order; 64 slots at most.
-pub fn read_ratios(text: &[u8], slots: usize) -> Result<Ratios, RatiosError>
+// The ratios of a text, one for each slot, in their order: slot 32 * channel + subband, channel 0's first. 64 slots at most; those not asked for have 0.0.
+pub fn read_ratios(text: &[u8], slots: usize) -> Result<[f64; 64], RatiosError>
     ensures { result ≡ ratios_of slots text.now }
 {
     let room = slots.min(64);
@@ -114,11 +105,11 @@ pub fn read_ratios(text: &[u8], slots: usize) -> Result<Ratios, RatiosError>
     while place.at < text.len() {
         let line = place.feeds + 1;
         if count == room {
-            return Err(RatiosError::TooMany { line, count });
+            return Err(RatiosError::TooMany { line });
         }
         let end = token_end(text, place.at);
         let Some(ratio) = read_ratio(&text[place.at..end]) else {
-            return Err(RatiosError::NotARatio { line, count });
+            return Err(RatiosError::NotARatio { line });
         };
         ratios[count] = ratio;
         count += 1;
@@ -134,7 +125,7 @@ pub fn read_ratios(text: &[u8], slots: usize) -> Result<Ratios, RatiosError>
         let line = count_lines(text);
         return Err(RatiosError::TooFew { line, count });
     }
-    Ok(Ratios { count, ratios })
+    Ok(ratios)
 }
 
 // A place of a text, and how many line feeds stand before it.
