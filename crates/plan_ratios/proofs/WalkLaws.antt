@@ -10,7 +10,8 @@ use Rattle.plan_ratios.specs.Ratio.{ratio_of}
 use Rattle.plan_text.specs.Lines.{ends_line}
 use Rattle.plan_ratios.specs.Tokens.{on_line, tokens_from}
 use Rattle.plan_ratios.specs.Ratios.{wanted, empty, accepted, answered, ratios_of}
-use Rattle.plan_ratios.specs.Walk.{is_end, Reached, Skipped}
+use Rattle.plan_ratios.specs.Walk.{Reached, Skipped}
+use Rattle.plan_text.specs.Lines.{is_end}
 use Rattle.plan_ratios.proofs.TokenLaws.{token_at, token_less}
 use Rattle.plan_ratios.proofs.AnswerLaws.{too_few, enough, too_many, unread, read, Filled, taken, whole, more, filled_more}
 

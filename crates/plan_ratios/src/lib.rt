@@ -7,7 +7,8 @@ ghost use Rattle.plan_ratios.specs.Ratio.{few, pointed, unsigned, signed, word_v
 ghost use Rattle.plan_text.specs.Bytes.{reach, pieces};
 ghost use Rattle.plan_text.specs.Lines.{ends_line};
 ghost use Rattle.plan_ratios.specs.Ratios.{ratios_of};
-ghost use Rattle.plan_ratios.specs.Walk.{is_end, GapEndIs, Skipped};
+ghost use Rattle.plan_ratios.specs.Walk.{GapEndIs, Skipped};
+ghost use Rattle.plan_text.specs.Lines.{is_end};
 
 // The words that are no numbers, and the ratios that they stand for.
 const WORDS: [(&[u8], f64); 3] = [
@@ -144,7 +145,7 @@ fn skip_gap(text: &[u8], from: Place) -> Place
     // Kept: a comment is passed in one step to its line feed; an iterator over the bytes would need a flag for standing in one.
     while place.at < text.len() {
         let byte = text[place.at];
-        if !is_end(byte) {
+        if !plan_text::is_end(byte) {
             return place;
         }
         let feeds = place.feeds + u64::from(byte == b'\n');
@@ -152,13 +153,6 @@ fn skip_gap(text: &[u8], from: Place) -> Place
         place = Place { at, feeds };
     }
     place
-}
-
-// A byte that ends a token: a line feed, the # of a comment, a space, a tab or a carriage return.
-fn is_end(byte: u8) -> bool
-    ensures { result ≡ is_end byte }
-{
-    matches!(byte, b'\n' | b'#' | b' ' | b'\t' | b'\r')
 }
 
 // Where a comment's line ends; past any other byte.
@@ -188,7 +182,7 @@ fn token_end(text: &[u8], from: usize) -> usize
 fn steps_to_end(text: &[u8], from: usize) -> Option<usize>
     ensures { result ≡ position is_end (drop from text.now) }
 {
-    text.iter().skip(from).position(|b| is_end(*b))
+    text.iter().skip(from).position(|b| plan_text::is_end(*b))
 }
 
 // How many lines a text has: one for each line feed, and one that is ended by the text's end.

@@ -81,14 +81,15 @@ fn read_number(text: &[u8]) -> Option<u32>
 }
 
 // Where a word stands on the line: from `at` to before `end`.
-#[derive(Clone, Copy)]
+// Kept: a place and not the word's slice: `words_of` and `words_line`, the definitions, give the place, and an error that lends the words would need a lifetime.
+#[derive(Clone, Copy, Debug, PartialEq, Eq)]
 pub struct WordPlace {
     pub at: usize,
     pub end: usize,
 }
 
 // Why `read_words` refuses.
-#[derive(Clone, Copy)]
+#[derive(Clone, Copy, Debug, PartialEq, Eq)]
 pub enum WordsError {
     // A word that is not known, or whose value cannot be read.
     Unknown(WordPlace),
@@ -101,7 +102,7 @@ pub enum WordsError {
 }
 
 // The header and the ancillary bits of a command line.
-// Kept: `Request` of encoder_bit_budget has the same two, but asks for an allocation; who shows side information reads words and asks for none.
+// Kept: `Request` has the same two fields, but is of encoder_bit_budget, a crate that reading words does not need.
 #[derive(Clone, Copy)]
 pub struct Words {
     pub header: FrameHeader,

@@ -53,6 +53,7 @@ fn multiplier(line: Line, index: u8) -> Line
 }
 
 // The last 15 decimal digits of a number.
+// Kept: there are always 15, with zeros in front, which itoa does not give; `write!` promises its text only where it answers `Ok`.
 fn spelled(n: u64) -> [u8; 15]
     ensures { Spelled n result }
 {

@@ -21,6 +21,7 @@ pub trait Answer {
 }
 
 // Reads, answers and writes, and answers how many lines the answer has. Where reading or writing fails it goes on, and `outcome` is the last error.
+// Kept: `outcome` is lent and there is no `?`, since an error ends nothing here: reading and writing go on behind it.
 pub fn run<A: Answer, R: Env + Input + Print>(
     answer: &A,
     rt: &R,
