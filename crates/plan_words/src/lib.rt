@@ -3,7 +3,7 @@
 
 ghost use Rattle.std.specs.Prelude.{◌≡◌};
 ghost use Rattle.plan_words.specs.Word.{number_word, meaning, number, value_after};
-ghost use Rattle.plan_words.specs.Line.{nothing_set, once, words_of, finished};
+ghost use Rattle.plan_words.specs.Line.{once, words_of, finished};
 
 use header::{FrameHeader, Mode, ModeExtension};
 
@@ -113,7 +113,7 @@ pub struct Words {
 pub fn read_words(words: &[u8]) -> Result<Words, WordsError>
     ensures { result ≡ words_of words.now }
 {
-    let mut settings = Settings::nothing();
+    let mut settings = Settings::default();
     let mut at = 0;
     // Kept: a refusal names the place of its word; `split` gives a word without its place, and an empty one behind the last byte 0.
     while at < words.len() {
@@ -127,7 +127,7 @@ pub fn read_words(words: &[u8]) -> Result<Words, WordsError>
 }
 
 // What the words before have set.
-#[derive(Clone, Copy)]
+#[derive(Clone, Copy, Default)]
 struct Settings {
     sample_rate: Option<u32>,
     bit_rate: Option<u32>,
@@ -140,21 +140,6 @@ struct Settings {
 }
 
 impl Settings {
-    fn nothing() -> Settings
-        ensures { result ≡ nothing_set }
-    {
-        Settings {
-            sample_rate: None,
-            bit_rate: None,
-            mode: None,
-            bound: None,
-            lsf: None,
-            padding: None,
-            crc: None,
-            ancillary: None,
-        }
-    }
-
     // With one more setting; nothing where a word before gave its key.
     fn with(mut self, setting: Setting) -> Option<Settings>
         ensures { result ≡ once self setting }
