@@ -31,9 +31,9 @@ pub fn run<A: Answer, R: Env + Input + Print>(
     ensures kept { OnOk outcome.new (IsOk outcome.old) }
 {
     // Kept: no heap, so words and input stand at the front of fixed arrays, and the slices are what was read.
-    let mut words = [0u8; 4096];
+    let mut words = [0u8; word_notes::WORDS_ROOM];
     let size = crate::read_words(rt, crate::word_count(rt), &mut words);
-    let mut input = [0u8; 65_536];
+    let mut input = [0u8; word_notes::INPUT_ROOM];
     let count = crate::read_input(rt, &words[..size], &mut input, outcome);
     write_answer(
         answer,

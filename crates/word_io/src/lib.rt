@@ -14,12 +14,8 @@ use std::io::Read;
 
 // How many words the command line has, the program's name among them.
 pub fn word_count(rt: &impl Env) -> usize {
-    for i in 0..usize::MAX {
-        if matches!(rt.arg(i, &mut []), Err(FillError::NotPresent)) {
-            return i;
-        }
-    }
-    usize::MAX
+    let is_behind = |i: &usize| matches!(rt.arg(*i, &mut []), Err(FillError::NotPresent));
+    (0..usize::MAX).find(is_behind).unwrap_or(usize::MAX)
 }
 
 // Puts the words of the command line, `count` with the program's name, one behind the other, each ended by a byte 0, and answers how many
