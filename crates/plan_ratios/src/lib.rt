@@ -102,7 +102,7 @@ pub fn read_ratios(text: &[u8], slots: usize) -> Result<[f64; 64], RatiosError>
     let mut ratios = [0.0; 64];
     let mut count: usize = 0;
     let mut place = skip_gap(text, Place { at: 0, feeds: 0 });
-    // Kept: a turn goes on from the token's end over a gap of any length; an iterator of tokens would have the same loop in its `next`.
+    // Kept: tokens are met by their places, as the proof has them; lines by `split`, and pieces of each in a second `for`, would say the same, and that proof is not made.
     while place.at < text.len() {
         let line = place.feeds + 1;
         if count == room {
@@ -142,7 +142,7 @@ fn skip_gap(text: &[u8], from: Place) -> Place
     ensures { Skipped text.now from result }
 {
     let mut place = from;
-    // Kept: a comment is passed in one step to its line feed; an iterator over the bytes would need a flag for standing in one.
+    // Kept: as in `read_ratios`: places, and no lines by `split`, whose proof is not made.
     while place.at < text.len() {
         let byte = text[place.at];
         if !plan_text::is_end(byte) {
@@ -169,6 +169,7 @@ fn gap_end(text: &[u8], at: usize) -> usize
 }
 
 // Where the token that starts at a place ends.
+// Kept: as plan_text's `find_byte` but for the test; a generic over a closure has to say in its contract which test the closure computes, and is no shorter than both.
 fn token_end(text: &[u8], from: usize) -> usize
     ensures { result ≡ from + reach is_end (drop from text.now) }
 {

@@ -115,7 +115,7 @@ pub fn read_words(words: &[u8]) -> Result<Words, WordsError>
 {
     let mut settings = Settings::default();
     let mut at = 0;
-    // Kept: a refusal names the place of its word; `split` gives a word without its place, and an empty one behind the last byte 0.
+    // Kept: a refusal names the place of its word; with `split_inclusive` the place is still added up by hand, and the byte 0 is to be taken off each word.
     while at < words.len() {
         let end = plan_text::find_byte(words, at, 0);
         let place = WordPlace { at, end };
