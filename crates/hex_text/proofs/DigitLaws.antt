@@ -1,58 +1,61 @@
 -- Digits in twos, one digit more, and the bytes that a buffer has of them.
 use mathlib.Core.Path.{◌≡◌, refl, sym, ap, ◌∙◌}
-use mathlib.Core.Bool.{Bool, true, false, ◌&&◌}
-use Rattle.std.specs.Prelude.{Some, None}
+use mathlib.Core.Bool.{Bool, true, false}
+use Rattle.std.specs.Prelude.{Option, Some, None, cond}
+use Rattle.std.specs.Char.{digit_value}
+use Rattle.tables.proofs.Rule.{below}
 use Rattle.std.proofs.lemmas.Option.{none-some, same_Some}
 use mathlib.Core.List.{List, [], ◌∷◌, ◌++◌}
-use Prim.Native.Nat.{ℕ, suc, ◌+◌, ◌-◌, ◌*◌, ◌≤◌, ◌<◌}
+use Prim.Native.Nat.{ℕ, suc, ◌+◌, ◌*◌, ◌≤◌, ◌<◌}
 use native.Mathlib.Numerals.{add-one}
 use native.Mathlib.Omega.{arith}
-use lib.Dec.{leb}
+use lib.Dec.{T, eqb, ltb}
 use lib.ListN.{length, take, set, length-append, length-set}
 use lib.Seq.{take-suc-set}
-use borrow.Author.Tests.{le-leb, lt-leb, leb-true, leb-false}
+use borrow.Author.Tests.{lt-ltb, ltb-true, eqb-true}
 use Rattle.hex_text.specs.declared.Digits.{Digits}
-use Rattle.hex_text.specs.Hex.{between, digit_of, paired, is_odd}
+use Rattle.hex_text.specs.Hex.{digit_of, paired, is_odd}
 use Rattle.hex_text.specs.Walk.{left_over, Held}
 
 -- ---- what a byte is worth
 
-inside : (least most b : ℕ) → least ≤ b → b ≤ most → between least most b ≡ true
-inside least most b l m = rw (le-leb least b l, le-leb b most m)
+-- by the value that the library gives a letter or digit
+abbrev worth_of : ℕ → Option ℕ
+worth_of b = cond (ltb (digit_value b) 16) (Some (digit_value b)) None
 
-below : (least most b : ℕ) → b < least → between least most b ≡ false
-below least most b l = rw (lt-leb least b l)
+abbrev alike : Option ℕ → Option ℕ → Bool
+alike None None = true
+alike None (Some y) = false
+alike (Some x) None = false
+alike (Some x) (Some y) = eqb x y
 
-above : (least most b : ℕ) → most < b → between least most b ≡ false
-above least most b l = rw (lt-leb b most l) (go (leb least b))
+T-true : (t : Bool) → T t → t ≡ true
+T-true true x = refl
+T-true false x = elim x [ ]
+
+alike_is : (a b : Option ℕ) → T (alike a b) → a ≡ b
+alike_is None None t = refl
+alike_is None (Some y) t = elim t [ ]
+alike_is (Some x) None t = elim t [ ]
+alike_is (Some x) (Some y) t = ap Some (eqb-true x y (T-true (eqb x y) t))
+
+digit_alike : (b : ℕ) → b < 256 → digit_of b ≡ worth_of b
+unfolding digit_of
+digit_alike b h = alike_is (digit_of b) (worth_of b) (all_below_256 b h)
   where
-    go : (t : Bool) → t && false ≡ false
-    go true = refl
-    go false = refl
+    all_below_256 : (b : ℕ) → b < 256 → T (alike (digit_of b) (worth_of b))
+    all_below_256 = below 256 (λ b. alike (digit_of b) (worth_of b)) tt
 
-outside : (least most b : ℕ) → (least ≤ b → b ≤ most → ⊥) → between least most b ≡ false
-outside least most b f = go (leb least b) refl
-  where
-    go : (t : Bool) → leb least b ≡ t → between least most b ≡ false
-    go true h = above least most b (let l = leb-true least b h in omega arith)
-    go false h = below least most b (leb-false least b h)
+module _ (b : ℕ) (h : b < 256) where
+  pub digit_read : (d : ℕ) → digit_value b < 16 → d ≡ digit_value b → Some d ≡ digit_of b
+  digit_read d l e = rw (digit_alike b h, lt-ltb (digit_value b) 16 l, e)
 
-module _ (b : ℕ) where
-  pub decimal : 48 ≤ b → b ≤ 57 → Some (b - 48) ≡ digit_of b
-  unfolding digit_of
-  decimal l m = rw (inside 48 57 b l m)
-
-  pub small_letter : 97 ≤ b → b ≤ 102 → Some (10 + (b - 97)) ≡ digit_of b
-  unfolding digit_of
-  small_letter l m = rw (above 48 57 b (omega arith), inside 97 102 b l m)
-
-  pub capital : 65 ≤ b → b ≤ 70 → Some (10 + (b - 65)) ≡ digit_of b
-  unfolding digit_of
-  capital l m = rw (above 48 57 b (omega arith), below 97 102 b (omega arith), inside 65 70 b l m)
-
-  pub no_digit : (48 ≤ b → b ≤ 57 → ⊥) → (97 ≤ b → b ≤ 102 → ⊥) → (65 ≤ b → b ≤ 70 → ⊥) → None ≡ digit_of b
-  unfolding digit_of
-  no_digit f g h = rw (outside 48 57 b f, outside 97 102 b g, outside 65 70 b h)
+  pub no_digit : (digit_value b < 16 → ⊥) → None ≡ digit_of b
+  no_digit f = rw (digit_alike b h) (go (ltb (digit_value b) 16) refl)
+    where
+      go : (t : Bool) → ltb (digit_value b) 16 ≡ t → None ≡ cond t (Some (digit_value b)) None
+      go true g = absurd (f (ltb-true (digit_value b) 16 g))
+      go false g = refl
 
 -- ---- in twos
 

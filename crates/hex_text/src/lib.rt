@@ -6,7 +6,7 @@ ghost use Rattle.hex_text.specs.Hex.{past, skipped, HexIs};
 ghost use Rattle.hex_text.specs.Walk.{WorthIs, Put, finished_as};
 
 // Why `read_hex` refuses; lines and columns are counted from 1.
-#[derive(Clone, Copy)]
+#[derive(Clone, Copy, Debug, PartialEq, Eq)]
 pub enum HexError {
     // A character that is no digit.
     WrongCharacter { line: u64, column: u64 },
@@ -65,7 +65,7 @@ pub fn read_hex(text: &[u8], bytes: &mut [u8]) -> Result<usize, HexError>
 fn is_skipped(place: Place, byte: u8) -> bool
     ensures { result ≡ skipped place byte }
 {
-    place.comment || matches!(byte, b'\n' | b'#' | b' ' | b'\t' | b'\r')
+    place.comment || plan_text::is_end(byte)
 }
 
 // The place behind a byte.
@@ -92,12 +92,8 @@ fn past(place: Place, byte: u8) -> Place
 fn worth(byte: u8) -> Option<u8>
     ensures { WorthIs byte result }
 {
-    match byte {
-        b'0'..=b'9' => Some(byte - b'0'),
-        b'a'..=b'f' => Some(10 + (byte - b'a')),
-        b'A'..=b'F' => Some(10 + (byte - b'A')),
-        _ => None,
-    }
+    let digit = (byte as char).to_digit(16)?;
+    Some(digit as u8)
 }
 
 // One digit more, on a line.

@@ -25,6 +25,7 @@ impl Answer for Planner {
 
 // Reads, plans and writes, and answers how many lines the answer has. Where reading or writing fails it goes on, and `outcome` is
 // the last error.
+// Kept: one function for each program, since its promise names its page, `plan_of`; what the two programs share stands in word_io.
 pub fn run<R: Env + Input + Print>(rt: &R, outcome: &mut io::Result<()>) -> usize
     ensures written { Written plan_of result }
     ensures kept { OnOk outcome.new (IsOk outcome.old) }
@@ -34,6 +35,7 @@ pub fn run<R: Env + Input + Print>(rt: &R, outcome: &mut io::Result<()>) -> usiz
 
 // Writes the answer line by line, and answers how many there were, as far as 64 bits count.
 // Where no write failed, what was written is the answer's text.
+// Kept: one function for each program, as above.
 pub fn write_plan<W: Write>(
     words: &[u8],
     input: &[u8],

@@ -7,6 +7,7 @@ use bitalloc::BitAllocTable;
 use encoder_bit_budget::{FixedBitBudget, Request};
 
 // The budget of a request, or the filler where it has none.
+// Kept: `side_page::page_line` is given a header and what was read apart from each other, so its definition says what a refused header's page shows too.
 pub fn budget_held(request: Request) -> FixedBitBudget
     ensures { BudgetHeld request result }
 {

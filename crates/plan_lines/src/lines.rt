@@ -52,7 +52,7 @@ fn limits(line: Line, sblimit: usize, bound: usize) -> Line
 
 // What a number of bits is of: those that are fixed, those that are offered to scalefactors and samples, those that the signal asks for, those that
 // the allocation spends, those that it leaves, and those that a frame's side information takes.
-#[derive(Clone, Copy)]
+#[derive(Clone, Copy, Debug, PartialEq, Eq)]
 pub enum Label {
     Fixed,
     Offered,
@@ -63,6 +63,7 @@ pub enum Label {
 }
 
 impl Label {
+    // Kept: one text for each label, as for the tables; a `Display` would be the same match, and a line takes bytes.
     fn bytes(self) -> &'static [u8]
         ensures { result.now ≡ label_text self }
     {

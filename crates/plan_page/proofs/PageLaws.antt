@@ -1,5 +1,5 @@
 -- Laws of the page: which line stands where.
-use Rattle.std.specs.Prelude.{Option, is_some, Some, Err, slice_get}
+use Rattle.std.specs.Prelude.{is_some, Some, Ok, Err, slice_get}
 use mathlib.Core.Path.{◌≡◌, refl, sym, ap, ◌∙◌}
 use mathlib.Core.List.{List, [], ◌∷◌, ◌++◌}
 use Prim.Native.Nat.{ℕ, ◌+◌, ◌-◌, ◌≤◌, ◌<◌}
@@ -16,13 +16,13 @@ use Rattle.tables.proofs.Listed.{tabulated, length_tabulate}
 use Rattle.header.specs.declared.FrameHeader.{FrameHeader}
 use Rattle.encoder_bit_budget.specs.declared.FixedBitBudget.{FixedBitBudget}
 use Rattle.encoder_bit_budget.specs.declared.Request.{Request}
-use Rattle.encoder_bit_budget.specs.Budget.{plain, header_asked, budget_of, layout_in, offered_in, offered_of, natural}
-use Rattle.encoder_bit_demand.specs.Demand.{demand_of}
+use Rattle.header.specs.Questions.{number}
+use Rattle.encoder_bit_budget.specs.Budget.{BudgetAnswer, plain, error_number, header_asked, budget_in, budget_of, layout_in, offered_in, offered_of, natural}
+use Rattle.encoder_bit_budget.proofs.BudgetLaws.{answer_is}
+use Rattle.encoder_bit_demand.specs.Demand.{Demanded, demand_in, demand_of}
 use Rattle.encoder_bit_budget.specs.declared.BitAllocError.{BitAllocError}
 use Rattle.encoder_bit_budget.specs.declared.BitAllocError.TheVariants.{RateOffLadder, NoBitallocTable, ZeroSampleRate, InsufficientFrameSize}
 use Rattle.encoder_bit_allocator.specs.Allocation.{AllocationAnswer, answer_in, allocation_asked, allocation_of}
-use Rattle.text_line.specs.declared.line.Text.{Text}
-use Rattle.text_line.specs.Page.{LineAt}
 use Rattle.text_line.proofs.PageLaws.{in_front, in_back}
 use Rattle.plan_lines.specs.Held.{told}
 use Rattle.plan_page.specs.Rows.{subband_line}
@@ -48,7 +48,7 @@ module _ (h : FrameHeader) (banc : ℕ) (smr : List (List Float)) (a : Allocatio
   unfolding page_of
   by = ap (page_by h smr (budget_of q).budget (natural (offered_of q)) (demand_of h smr).bits) (sym e)
 
-  page_accepted : (b : FixedBitBudget) (offered demand : ℕ) → b ≡ (budget_of q).budget → offered ≡ natural (offered_in b banc) → demand ≡ (demand_of h smr).bits
+  pub page_accepted : (b : FixedBitBudget) (offered demand : ℕ) → b ≡ (budget_of q).budget → offered ≡ natural (offered_in b banc) → demand ≡ (demand_of h smr).bits
       → a.number ≡ 0 → page_of h banc smr ≡ accepted_page b offered demand a.audio.nb_steps a.left smr
   page_accepted b offered demand p o d z =
       by
@@ -58,19 +58,9 @@ module _ (h : FrameHeader) (banc : ℕ) (smr : List (List Float)) (a : Allocatio
   page_refused : (a.number ≡ 0 → ⊥) → page_of h banc smr ≡ refusal_line h a.number a.cb a.fixed a.banc ∷ []
   page_refused z = by ∙ opened_refused h smr (budget_of q).budget (natural (offered_of q)) (demand_of h smr).bits a z
 
-  -- a line of the page, from what the code has for its parts
-  pub line_accepted : (b : FixedBitBudget) (offered demand n : ℕ) (t : Option (Text 256)) → b ≡ (budget_of q).budget → offered ≡ natural (offered_in b banc)
-      → demand ≡ (demand_of h smr).bits → a.number ≡ 0 → LineAt (accepted_page b offered demand a.audio.nb_steps a.left smr) n t
-      → LineAt (page_of h banc smr) n t
-  line_accepted b offered demand n t p o d z g = g ∙ ap (λ (p : List (List ℕ)). slice_get p n) (sym (page_accepted b offered demand p o d z))
-
-  pub line_refused : (t : List ℕ) (n : ℕ) (r : Option (Text 256)) → (a.number ≡ 0 → ⊥) → t ≡ refusal_line h a.number a.cb a.fixed a.banc
-      → LineAt (t ∷ []) n r → LineAt (page_of h banc smr) n r
-  line_refused t n r z e g = g ∙ ap (λ (t : List ℕ). slice_get (t ∷ []) n) e ∙ ap (λ (p : List (List ℕ)). slice_get p n) (sym (page_refused z))
-
 -- ---- a refused allocation
 
-pub refused_number : (e : BitAllocError) → (answer_in (Err e)).number ≡ 0 → ⊥
+refused_number : (e : BitAllocError) → (answer_in (Err e)).number ≡ 0 → ⊥
 refused_number RateOffLadder z = omega arith
 refused_number NoBitallocTable z = omega arith
 refused_number ZeroSampleRate z = omega arith
@@ -79,11 +69,30 @@ refused_number (InsufficientFrameSize cb fixed banc) z = omega arith
 abbrev refusal_said : FrameHeader → AllocationAnswer → List ℕ
 refusal_said h a = refusal_line h a.number a.cb a.fixed a.banc
 
-pub refusal_told : (h : FrameHeader) (e : BitAllocError) → told (refusal_line h) e ≡ refusal_said h (answer_in (Err e))
+refusal_told : (h : FrameHeader) (e : BitAllocError) → told (refusal_line h) e ≡ refusal_said h (answer_in (Err e))
 refusal_told h RateOffLadder = refl
 refusal_told h NoBitallocTable = refl
 refusal_told h ZeroSampleRate = refl
 refusal_told h (InsufficientFrameSize cb fixed banc) = refl
+
+pub refused_page : (h : FrameHeader) (banc : ℕ) (smr : List (List Float)) (e : BitAllocError) → answer_in (Err e) ≡ allocation_of (plain h banc) smr
+    → told (refusal_line h) e ∷ [] ≡ page_of h banc smr
+refused_page h banc smr e p = ap (λ (t : List ℕ). t ∷ []) (refusal_told h e) ∙ sym (page_refused h banc smr (answer_in (Err e)) p (refused_number e))
+
+-- where there is a budget there is a demand
+pub demanded : (h : FrameHeader) (banc : ℕ) (smr : List (List Float)) (b : FixedBitBudget) (e : BitAllocError) → budget_in (Ok b) ≡ budget_of (plain h banc)
+    → demand_in (Err e) ≡ demand_of h smr → ⊥
+unfolding demand_of
+demanded h banc smr b e p d =
+    let n : error_number e ≡ number (header_asked h) = ap (λ (a : Demanded). a.answer) d ∙ answer_is (plain h 0) in
+    let z : 0 ≡ number (header_asked h) = ap (λ (a : BudgetAnswer). a.answer) p ∙ answer_is (plain h banc) in
+    go e (n ∙ sym z)
+  where
+    go : (e : BitAllocError) → error_number e ≡ 0 → ⊥
+    go RateOffLadder z = omega arith
+    go NoBitallocTable z = omega arith
+    go ZeroSampleRate z = omega arith
+    go (InsufficientFrameSize cb fixed banc) z = omega arith
 
 -- every number that the questions of an allocation give has its sentence
 pub each_has_one : (q : Request) (cb fixed banc : ℕ)

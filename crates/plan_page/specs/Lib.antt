@@ -1,3 +1,4 @@
 pub mod Rows
 pub mod Charged
 pub mod Page
+pub mod Shown

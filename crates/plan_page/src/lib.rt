@@ -1,6 +1,7 @@
 // The planner's page: whether a frame carries a signal, as lines of text.
 #![tactic(auto)]
 
+mod accepted;
 mod page;
 mod rows;
 

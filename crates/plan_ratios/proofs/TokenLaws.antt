@@ -5,7 +5,8 @@ use Rattle.plan_text.proofs.ByteLaws.{found_most}
 use Rattle.plan_text.specs.Bytes.{reach, before, onto, pieces}
 use Rattle.plan_text.specs.Lines.{ends_line, is_hash, is_blank}
 use Rattle.plan_ratios.specs.Tokens.{filled, line_tokens, Token, on_line, numbered, tokens_from}
-use Rattle.plan_ratios.specs.Walk.{is_end, gap, GapEndIs}
+use Rattle.plan_ratios.specs.Walk.{gap, GapEndIs}
+use Rattle.plan_text.specs.Lines.{is_end}
 
 neither : (a b : Bool) → a || b ≡ false → (a ≡ false) × (b ≡ false)
 neither true b e = absurd (subst T e tt)

@@ -10,7 +10,8 @@ use Rattle.plan_ratios.specs.Ratio.{ratio_of}
 use Rattle.plan_text.specs.Lines.{ends_line}
 use Rattle.plan_ratios.specs.Tokens.{on_line, tokens_from}
 use Rattle.plan_ratios.specs.Ratios.{wanted, empty, accepted, answered, ratios_of}
-use Rattle.plan_ratios.specs.Walk.{is_end, Reached, Skipped}
+use Rattle.plan_ratios.specs.Walk.{Reached, Skipped}
+use Rattle.plan_text.specs.Lines.{is_end}
 use Rattle.plan_ratios.proofs.TokenLaws.{token_at, token_less}
 use Rattle.plan_ratios.proofs.AnswerLaws.{too_few, enough, too_many, unread, read, Filled, taken, whole, more, filled_more}
 
@@ -66,22 +67,20 @@ module _ (text : List ℕ) (given slots : ℕ) (fits : slots ≤ 64) (ratios : L
     pub within : e ≤ length text
     within = found_most is_end text at e w.reached.within f
 
-    pub at_many : count ≡ slots → ratios_of given text ≡ Err (TooMany (feeds + 1) count)
+    pub at_many : count ≡ slots → ratios_of given text ≡ Err (TooMany (feeds + 1))
     at_many z =
         met
         ∙ too_many slots (lines text) got (on_line (feeds + 1) token) (tokens_from (feeds + 1) (drop e text)) (omega (arith, as_many))
-        ∙ ap (λ (n : ℕ). Err (TooMany (feeds + 1) n)) as_many
 
     module _ (z : count ≡ slots → ⊥) where
       less : length got < slots
       less = omega (arith, as_many, w.room, z)
 
-      pub at_unread : ratio_of (take (e - at) (drop at text)) ≡ None → ratios_of given text ≡ Err (NotARatio (feeds + 1) count)
+      pub at_unread : ratio_of (take (e - at) (drop at text)) ≡ None → ratios_of given text ≡ Err (NotARatio (feeds + 1))
       unfolding token
       at_unread q =
           met
           ∙ unread slots (lines text) got (on_line (feeds + 1) token) (tokens_from (feeds + 1) (drop e text)) less q
-          ∙ ap (λ (n : ℕ). Err (NotARatio (feeds + 1) n)) as_many
 
       pub below : count < slots
       below = subst (λ (n : ℕ). n < slots) as_many less
@@ -111,6 +110,6 @@ module _ (text : List ℕ) (given slots : ℕ) (fits : slots ≤ 64) (ratios : L
     pub at_few : count < slots → ratios_of given text ≡ Err (TooFew (lines text) count)
     at_few l = over ∙ too_few slots (lines text) got (omega (arith, as_many)) ∙ ap (λ (n : ℕ). Err (TooFew (lines text) n)) as_many
 
-    pub at_enough : slots ≤ count → ratios_of given text ≡ Ok (record { count = count; ratios = ratios })
+    pub at_enough : slots ≤ count → ratios_of given text ≡ Ok ratios
     unfolding got accepted
-    at_enough l = over ∙ enough slots (lines text) got (omega (arith, as_many)) ∙ rw (whole ratios count w.filled, as_many)
+    at_enough l = over ∙ enough slots (lines text) got (omega (arith, as_many)) ∙ rw (whole ratios count w.filled)

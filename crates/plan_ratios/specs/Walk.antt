@@ -1,14 +1,10 @@
 -- What the walk over a text keeps: the tokens that are still to come.
 -- For the contracts of private functions alone: nothing that a caller has to believe stands here.
-use Rattle.std.specs.Prelude.{◌≡◌, ℕ, suc, ◌+◌, ◌<◌, ◌≤◌, Bool, false, cond, ◌||◌, List, [], ◌∷◌, length, drop, slice_index}
+use Rattle.std.specs.Prelude.{◌≡◌, ℕ, suc, ◌+◌, ◌<◌, ◌≤◌, false, cond, List, [], ◌∷◌, length, drop, slice_index}
 use Rattle.plan_text.specs.Bytes.{reach}
-use Rattle.plan_text.specs.Lines.{ends_line, is_hash, is_blank}
+use Rattle.plan_text.specs.Lines.{ends_line, is_hash, is_end}
 use Rattle.plan_ratios.specs.declared.Place.{Place}
 use Rattle.plan_ratios.specs.Tokens.{tokens_from}
-
--- what ends a token
-abbrev pub is_end : ℕ → Bool
-is_end b = ends_line b || is_hash b || is_blank b
 
 -- how far a gap goes: to the end of a comment's line, or over one byte
 abbrev pub gap : List ℕ → ℕ

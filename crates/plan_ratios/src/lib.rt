@@ -7,7 +7,8 @@ ghost use Rattle.plan_ratios.specs.Ratio.{few, pointed, unsigned, signed, word_v
 ghost use Rattle.plan_text.specs.Bytes.{reach, pieces};
 ghost use Rattle.plan_text.specs.Lines.{ends_line};
 ghost use Rattle.plan_ratios.specs.Ratios.{ratios_of};
-ghost use Rattle.plan_ratios.specs.Walk.{is_end, GapEndIs, Skipped};
+ghost use Rattle.plan_ratios.specs.Walk.{GapEndIs, Skipped};
+ghost use Rattle.plan_text.specs.Lines.{is_end};
 
 // The words that are no numbers, and the ratios that they stand for.
 const WORDS: [(&[u8], f64); 3] = [
@@ -82,43 +83,34 @@ fn nearest_decimal(whole: u64, fraction: u64, places: usize) -> f64
     std::num::nearest_u64_to_f64(digits) / std::num::nearest_u64_to_f64(scale)
 }
 
-// Why `read_ratios` refuses: the line, counted from 1, and how many ratios stand before.
-#[derive(Clone, Copy)]
+// Why `read_ratios` refuses; lines are counted from 1.
+#[derive(Clone, Copy, Debug, PartialEq, Eq)]
 pub enum RatiosError {
     // A token that is no ratio.
-    NotARatio { line: u64, count: usize },
+    NotARatio { line: u64 },
     // A token behind the last slot.
-    TooMany { line: u64, count: usize },
-    // The text ends, with this line, before the last slot is filled.
+    TooMany { line: u64 },
+    // The text ends, with this line, behind `count` ratios, before the last slot is filled.
     TooFew { line: u64, count: usize },
 }
 
-// The ratios of a text: slot 32 * channel + subband, channel 0's first.
-// Kept: no heap, so the ratios fill the front of an array of 64, and how many they are stands beside it.
-#[derive(Clone, Copy)]
-pub struct Ratios {
-    // How many there are; the slots behind them have 0.0.
-    pub count: usize,
-    pub ratios: [f64; 64],
-}
-
-// The ratios of a text, one for each slot, in their order; 64 slots at most.
-pub fn read_ratios(text: &[u8], slots: usize) -> Result<Ratios, RatiosError>
+// The ratios of a text, one for each slot, in their order: slot 32 * channel + subband, channel 0's first. 64 slots at most; those not asked for have 0.0.
+pub fn read_ratios(text: &[u8], slots: usize) -> Result<[f64; 64], RatiosError>
     ensures { result ≡ ratios_of slots text.now }
 {
     let room = slots.min(64);
     let mut ratios = [0.0; 64];
     let mut count: usize = 0;
     let mut place = skip_gap(text, Place { at: 0, feeds: 0 });
-    // Kept: a turn goes on from the token's end over a gap of any length; an iterator of tokens would have the same loop in its `next`.
+    // Kept: tokens are met by their places, as the proof has them; lines by `split`, and pieces of each in a second `for`, would say the same, and that proof is not made.
     while place.at < text.len() {
         let line = place.feeds + 1;
         if count == room {
-            return Err(RatiosError::TooMany { line, count });
+            return Err(RatiosError::TooMany { line });
         }
         let end = token_end(text, place.at);
         let Some(ratio) = read_ratio(&text[place.at..end]) else {
-            return Err(RatiosError::NotARatio { line, count });
+            return Err(RatiosError::NotARatio { line });
         };
         ratios[count] = ratio;
         count += 1;
@@ -134,7 +126,7 @@ pub fn read_ratios(text: &[u8], slots: usize) -> Result<Ratios, RatiosError>
         let line = count_lines(text);
         return Err(RatiosError::TooFew { line, count });
     }
-    Ok(Ratios { count, ratios })
+    Ok(ratios)
 }
 
 // A place of a text, and how many line feeds stand before it.
@@ -150,10 +142,10 @@ fn skip_gap(text: &[u8], from: Place) -> Place
     ensures { Skipped text.now from result }
 {
     let mut place = from;
-    // Kept: a comment is passed in one step to its line feed; an iterator over the bytes would need a flag for standing in one.
+    // Kept: as in `read_ratios`: places, and no lines by `split`, whose proof is not made.
     while place.at < text.len() {
         let byte = text[place.at];
-        if !is_end(byte) {
+        if !plan_text::is_end(byte) {
             return place;
         }
         let feeds = place.feeds + u64::from(byte == b'\n');
@@ -161,13 +153,6 @@ fn skip_gap(text: &[u8], from: Place) -> Place
         place = Place { at, feeds };
     }
     place
-}
-
-// A byte that ends a token: a line feed, the # of a comment, a space, a tab or a carriage return.
-fn is_end(byte: u8) -> bool
-    ensures { result ≡ is_end byte }
-{
-    matches!(byte, b'\n' | b'#' | b' ' | b'\t' | b'\r')
 }
 
 // Where a comment's line ends; past any other byte.
@@ -184,6 +169,7 @@ fn gap_end(text: &[u8], at: usize) -> usize
 }
 
 // Where the token that starts at a place ends.
+// Kept: as plan_text's `find_byte` but for the test; a generic over a closure has to say in its contract which test the closure computes, and is no shorter than both.
 fn token_end(text: &[u8], from: usize) -> usize
     ensures { result ≡ from + reach is_end (drop from text.now) }
 {
@@ -197,7 +183,7 @@ fn token_end(text: &[u8], from: usize) -> usize
 fn steps_to_end(text: &[u8], from: usize) -> Option<usize>
     ensures { result ≡ position is_end (drop from text.now) }
 {
-    text.iter().skip(from).position(|b| is_end(*b))
+    text.iter().skip(from).position(|b| plan_text::is_end(*b))
 }
 
 // How many lines a text has: one for each line feed, and one that is ended by the text's end.

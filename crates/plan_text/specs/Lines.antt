@@ -14,3 +14,7 @@ is_hash b = eqb b (code "#")
 -- white space within a line
 abbrev pub is_blank : ℕ → Bool
 is_blank b = eqb b (code " ") || eqb b (code "\t") || eqb b (code "\r")
+
+-- what ends a token
+abbrev pub is_end : ℕ → Bool
+is_end b = ends_line b || is_hash b || is_blank b

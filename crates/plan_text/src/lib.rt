@@ -4,6 +4,7 @@
 ghost use Rattle.std.specs.Prelude.{◌≡◌, ◌+◌, ◌==◌, min, drop, eqb, position};
 ghost use Rattle.plan_text.specs.Bytes.{reach};
 ghost use Rattle.plan_text.specs.Digits.{number_to};
+ghost use Rattle.plan_text.specs.Lines.{is_end};
 ghost use Rattle.plan_text.specs.Table.{looked_up};
 
 // What stands beside the first entry of a table with a word.
@@ -31,6 +32,13 @@ fn steps_to(text: &[u8], from: usize, byte: u8) -> Option<usize>
     text.iter().skip(from).position(|b| *b == byte)
 }
 
+// Whether a byte ends a token: a line feed, the # of a comment, a space, a tab or a carriage return.
+pub fn is_end(byte: u8) -> bool
+    ensures { result ≡ is_end byte }
+{
+    matches!(byte, b'\n' | b'#' | b' ' | b'\t' | b'\r')
+}
+
 // The place past a byte that was found, or the end where there is none.
 pub fn past(place: usize, end: usize) -> usize
     ensures { result ≡ min (place + 1) end }
@@ -41,6 +49,7 @@ pub fn past(place: usize, end: usize) -> usize
 // The largest number that `read_digits` takes: fifteen nines, which binary64 holds exactly.
 const MOST: u64 = 999_999_999_999_999;
 
+// Kept: `parse` takes a sign, refuses an empty text and goes on to 64 bits; here an empty text counts as 0 and fifteen nines are the most.
 // The number of a text of digits; none where a byte is not a digit or the number is more than `MOST`.
 pub fn read_digits(text: &[u8]) -> Option<u64>
     ensures { result ≡ number_to 999_999_999_999_999 text.now }

@@ -15,7 +15,7 @@ use Rattle.plan_words.specs.declared.Setting.{Setting}
 use Rattle.plan_words.specs.declared.Settings.{Settings}
 use Rattle.plan_words.specs.declared.WordsError.TheVariants.{Unknown, Twice}
 use Rattle.plan_words.specs.Word.{meaning}
-use Rattle.plan_words.specs.Line.{Word, place_of, placed, is_end, once, finished, settled, words_of}
+use Rattle.plan_words.specs.Line.{nothing_set, Word, place_of, placed, is_end, once, finished, settled, words_of}
 
 -- the words from a place on
 abbrev pub words_from : ℕ → List ℕ → List Word
@@ -96,3 +96,12 @@ module _ (text : List ℕ) (st : Settings) (i e : ℕ) (h : i < length text) (f 
     pub at_once : (s : ℕ) (t : Settings) → s ≡ min (e + 1) (length text) → Some t ≡ once st m → words_of text ≡ settled t (words_from s text)
     unfolding word
     at_once s t g q = met s g ∙ one_more st word (words_from s text) m known t q
+
+-- ---- before the first word
+
+-- every setting's default is that it is not given
+pub none_given : (s : Settings) → s.sample_rate ≡ None → s.bit_rate ≡ None → s.mode ≡ None → s.bound ≡ None → s.lsf ≡ None → s.padding ≡ None → s.crc ≡ None
+    → s.ancillary ≡ None → s ≡ nothing_set
+unfolding nothing_set
+none_given s a b c d e f g h =
+    λ i. record { sample_rate = a i; bit_rate = b i; mode = c i; bound = d i; lsf = e i; padding = f i; crc = g i; ancillary = h i }

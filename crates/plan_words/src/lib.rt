@@ -3,7 +3,7 @@
 
 ghost use Rattle.std.specs.Prelude.{◌≡◌};
 ghost use Rattle.plan_words.specs.Word.{number_word, meaning, number, value_after};
-ghost use Rattle.plan_words.specs.Line.{nothing_set, once, words_of, finished};
+ghost use Rattle.plan_words.specs.Line.{once, words_of, finished};
 
 use header::{FrameHeader, Mode, ModeExtension};
 
@@ -81,14 +81,15 @@ fn read_number(text: &[u8]) -> Option<u32>
 }
 
 // Where a word stands on the line: from `at` to before `end`.
-#[derive(Clone, Copy)]
+// Kept: a place and not the word's slice: `words_of` and `words_line`, the definitions, give the place, and an error that lends the words would need a lifetime.
+#[derive(Clone, Copy, Debug, PartialEq, Eq)]
 pub struct WordPlace {
     pub at: usize,
     pub end: usize,
 }
 
 // Why `read_words` refuses.
-#[derive(Clone, Copy)]
+#[derive(Clone, Copy, Debug, PartialEq, Eq)]
 pub enum WordsError {
     // A word that is not known, or whose value cannot be read.
     Unknown(WordPlace),
@@ -101,7 +102,7 @@ pub enum WordsError {
 }
 
 // The header and the ancillary bits of a command line.
-// Kept: `Request` of encoder_bit_budget has the same two, but asks for an allocation; who shows side information reads words and asks for none.
+// Kept: `Request` has the same two fields, but is of encoder_bit_budget, a crate that reading words does not need.
 #[derive(Clone, Copy)]
 pub struct Words {
     pub header: FrameHeader,
@@ -112,9 +113,9 @@ pub struct Words {
 pub fn read_words(words: &[u8]) -> Result<Words, WordsError>
     ensures { result ≡ words_of words.now }
 {
-    let mut settings = Settings::nothing();
+    let mut settings = Settings::default();
     let mut at = 0;
-    // Kept: a refusal names the place of its word; `split` gives a word without its place, and an empty one behind the last byte 0.
+    // Kept: a refusal names the place of its word; with `split_inclusive` the place is still added up by hand, and the byte 0 is to be taken off each word.
     while at < words.len() {
         let end = plan_text::find_byte(words, at, 0);
         let place = WordPlace { at, end };
@@ -126,7 +127,7 @@ pub fn read_words(words: &[u8]) -> Result<Words, WordsError>
 }
 
 // What the words before have set.
-#[derive(Clone, Copy)]
+#[derive(Clone, Copy, Default)]
 struct Settings {
     sample_rate: Option<u32>,
     bit_rate: Option<u32>,
@@ -139,21 +140,6 @@ struct Settings {
 }
 
 impl Settings {
-    fn nothing() -> Settings
-        ensures { result ≡ nothing_set }
-    {
-        Settings {
-            sample_rate: None,
-            bit_rate: None,
-            mode: None,
-            bound: None,
-            lsf: None,
-            padding: None,
-            crc: None,
-            ancillary: None,
-        }
-    }
-
     // With one more setting; nothing where a word before gave its key.
     fn with(mut self, setting: Setting) -> Option<Settings>
         ensures { result ≡ once self setting }

@@ -16,10 +16,10 @@ use text_line::{Line, only};
 pub fn plan_line(words: &[u8], input: &[u8], n: usize) -> Option<Line>
     ensures { LineAt (plan_of words.now input.now) n result }
 {
-    if 4096 <= words.len() {
+    if word_notes::WORDS_ROOM <= words.len() {
         return only(word_notes::long_words(), n);
     }
-    if 65_536 <= input.len() {
+    if word_notes::INPUT_ROOM <= input.len() {
         return only(word_notes::long_input(), n);
     }
     match plan_words::read_words(words) {
@@ -35,7 +35,7 @@ fn with_words(words: Words, input: &[u8], n: usize) -> Option<Line>
     let header = words.header;
     let wanted = slots_for(header);
     match plan_ratios::read_ratios(input, wanted) {
-        Ok(read) => plan_page::page_line(header, words.banc, slots::rows(&read.ratios), n),
+        Ok(ratios) => plan_page::page_line(header, words.banc, slots::rows(&ratios), n),
         Err(error) => only(notes::ratios_line(error, wanted as u64), n),
     }
 }

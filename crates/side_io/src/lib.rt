@@ -26,6 +26,7 @@ impl Answer for SideShow {
 
 // Reads, shows and writes, and answers how many lines the answer has. Where reading or writing fails it goes on, and `outcome` is
 // the last error.
+// Kept: one function for each program, since its promise names its page, `side_of`; what the two programs share stands in word_io.
 pub fn run<R: Env + Input + Print>(rt: &R, outcome: &mut io::Result<()>) -> usize
     ensures written { Written side_of result }
     ensures kept { OnOk outcome.new (IsOk outcome.old) }
@@ -35,6 +36,7 @@ pub fn run<R: Env + Input + Print>(rt: &R, outcome: &mut io::Result<()>) -> usiz
 
 // Writes the answer line by line, and answers how many there were, as far as 64 bits count.
 // Where no write failed, what was written is the answer's text.
+// Kept: one function for each program, as above.
 pub fn write_side<W: Write>(
     words: &[u8],
     input: &[u8],

@@ -59,6 +59,7 @@ fn accepted_line(
 }
 
 // A line above the rows.
+// Kept: each place's line is made where it is asked for; an array of the three would make all of them for each line of the page.
 fn head_line(header: FrameHeader, b: FixedBitBudget, n: usize) -> Option<Line>
     ensures { LineAt (head_of (free_format header) b) n result }
 {
@@ -95,6 +96,7 @@ fn row_line(slot: usize, info: &SideInfo) -> Line
 }
 
 // A line below the rows.
+// Kept: as above, of two lines.
 fn foot_line(bits: u64, n: usize) -> Option<Line>
     ensures { LineAt (foot_of bits) n result }
 {

@@ -22,6 +22,7 @@ pub fn refused_line(header: FrameHeader, error: ReadError, given: u64) -> Line
 }
 
 // The page names no bits beside a number: 4 alone has any, and no reader gives it.
+// Kept: the definition of this line takes the number alone and says 0 for the bits; one match by numbers, tried before, gave each header's refusal an arm and wrote these zeros too.
 fn without_bits(error: BitAllocError) -> BitAllocError
     ensures { (said : ℕ → ℕ → ℕ → ℕ → List ℕ) → told said result ≡ said (error_number error) 0 0 0 }
 {

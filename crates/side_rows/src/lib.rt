@@ -16,6 +16,7 @@ pub fn heading() -> Line
 }
 
 // The row of a slot, from its steps, the code of its scfsi and the scalefactor indices of its granules.
+// Kept: the code and no `Scfsi`: the row prints the number, as the definition `row_line` takes it.
 pub fn row_line(slot: usize, nb_steps: u32, code: u8, index: [u8; 3]) -> Line
     ensures { text_of result ≡ row_line slot nb_steps code (three_in index) }
 {
@@ -53,6 +54,7 @@ fn multiplier(line: Line, index: u8) -> Line
 }
 
 // The last 15 decimal digits of a number.
+// Kept: there are always 15, with zeros in front, which itoa does not give; `write!` promises its text only where it answers `Ok`.
 fn spelled(n: u64) -> [u8; 15]
     ensures { Spelled n result }
 {

@@ -14,7 +14,7 @@ use text_line::{Line, only};
 pub fn side_line(words: &[u8], input: &[u8], n: usize) -> Option<Line>
     ensures { LineAt (side_of words.now input.now) n result }
 {
-    if 4096 <= words.len() {
+    if word_notes::WORDS_ROOM <= words.len() {
         return only(word_notes::long_words(), n);
     }
     match plan_words::read_words(words) {
@@ -27,11 +27,11 @@ pub fn side_line(words: &[u8], input: &[u8], n: usize) -> Option<Line>
 fn with_input(header: FrameHeader, input: &[u8], n: usize) -> Option<Line>
     ensures { LineAt (with_input header input.now) n result }
 {
-    if 65_536 <= input.len() {
+    if word_notes::INPUT_ROOM <= input.len() {
         return only(word_notes::long_input(), n);
     }
     // Kept: nothing here is allocated, so `read_hex` fills the front of an array and says how far.
-    let mut bytes = [0u8; 65_536];
+    let mut bytes = [0u8; word_notes::INPUT_ROOM];
     match hex_text::read_hex(input, &mut bytes) {
         Ok(count) => with_bytes(header, &bytes[..count], n),
         Err(HexError::WrongCharacter { line, column }) => {

@@ -5,7 +5,7 @@ use mathlib.Core.List.{◌++◌}
 use Prim.Native.Nat.{ℕ, ◌/◌, ◌≤◌}
 use native.Mathlib.Omega.{arith}
 use lib.Dec.{T, ltb}
-use lib.Ieee.{Float, nan, inf, fin, binary64, lt, eq, div, of_bits}
+use lib.Ieee.{Float, nan, inf, fin, binary64, lt, eq, of_bits}
 use lib.ListN.{length, length-append}
 use Rattle.ieee_order.specs.Order.{abs_of}
 use Rattle.plan_text.specs.Quoted.{text}
@@ -18,26 +18,26 @@ abbrev pub nought : Float
 nought = of_bits binary64 0
 
 abbrev pub infinity : Float
-infinity = div binary64 (of_bits binary64 0x3ff0_0000_0000_0000) (of_bits binary64 0)
+infinity = of_bits binary64 0x7ff0_0000_0000_0000
 
 never : false ≡ true → ⊥
 never h = subst T (sym h) tt
 
 pub is_finite : (x : Float) → lt (abs_of x) infinity ≡ true → decibels_text x ≡ finite_text (lt x nought) (hundredths_of (abs_of x))
-unfolding lt abs_of div of_bits decibels_text
+unfolding lt abs_of of_bits decibels_text
 is_finite nan h = absurd (never h)
 is_finite (inf s) h = absurd (never h)
 is_finite (fin s m e) h = refl
 
 pub is_infinite : (x : Float) → lt (abs_of x) infinity ≡ false → eq (abs_of x) infinity ≡ true → decibels_text x ≡ minus_text (lt x nought) ++ text "inf"
-unfolding lt eq abs_of div of_bits decibels_text
+unfolding lt eq abs_of of_bits decibels_text
 is_infinite nan h g = absurd (never g)
 is_infinite (inf true) h g = refl
 is_infinite (inf false) h g = refl
 is_infinite (fin s m e) h g = absurd (never g)
 
 pub is_nan : (x : Float) → lt (abs_of x) infinity ≡ false → eq (abs_of x) infinity ≡ false → decibels_text x ≡ text "nan"
-unfolding lt eq abs_of div of_bits decibels_text
+unfolding lt eq abs_of of_bits decibels_text
 is_nan nan h g = refl
 is_nan (inf s) h g = absurd (never (sym g))
 is_nan (fin s m e) h g = absurd (never (sym h))

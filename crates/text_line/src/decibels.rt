@@ -14,11 +14,10 @@ impl Line {
     pub fn decibels(self, x: f64) -> Line
         ensures { text_of result ≡ cut (text_of self ++ decibels_text x) }
     {
-        let infinity = 1.0 / 0.0;
         let magnitude = ieee_order::abs(x);
-        if magnitude < infinity {
+        if magnitude < f64::INFINITY {
             self.finite(x < 0.0, hundredths(magnitude))
-        } else if magnitude == infinity {
+        } else if magnitude == f64::INFINITY {
             self.minus(x < 0.0).text(b"inf")
         } else {
             self.text(b"nan")
@@ -44,6 +43,7 @@ impl Line {
     }
 
     // With a number of hundredths behind.
+    // Kept: the part has always two digits, which itoa does not give; `write!` would promise them only where it answers `Ok`.
     fn fixed(self, hundredths: u64) -> Line
         ensures { text_of result ≡ cut (text_of self ++ hundredths_text hundredths) }
     {

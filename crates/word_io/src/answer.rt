@@ -21,6 +21,7 @@ pub trait Answer {
 }
 
 // Reads, answers and writes, and answers how many lines the answer has. Where reading or writing fails it goes on, and `outcome` is the last error.
+// Kept: `outcome` is lent and there is no `?`, since an error ends nothing here: reading and writing go on behind it.
 pub fn run<A: Answer, R: Env + Input + Print>(
     answer: &A,
     rt: &R,
@@ -30,9 +31,9 @@ pub fn run<A: Answer, R: Env + Input + Print>(
     ensures kept { OnOk outcome.new (IsOk outcome.old) }
 {
     // Kept: no heap, so words and input stand at the front of fixed arrays, and the slices are what was read.
-    let mut words = [0u8; 4096];
+    let mut words = [0u8; word_notes::WORDS_ROOM];
     let size = crate::read_words(rt, crate::word_count(rt), &mut words);
-    let mut input = [0u8; 65_536];
+    let mut input = [0u8; word_notes::INPUT_ROOM];
     let count = crate::read_input(rt, &words[..size], &mut input, outcome);
     write_answer(
         answer,

@@ -14,12 +14,8 @@ use std::io::Read;
 
 // How many words the command line has, the program's name among them.
 pub fn word_count(rt: &impl Env) -> usize {
-    for i in 0..usize::MAX {
-        if matches!(rt.arg(i, &mut []), Err(FillError::NotPresent)) {
-            return i;
-        }
-    }
-    usize::MAX
+    let is_behind = |i: &usize| matches!(rt.arg(*i, &mut []), Err(FillError::NotPresent));
+    (0..usize::MAX).find(is_behind).unwrap_or(usize::MAX)
 }
 
 // Puts the words of the command line, `count` with the program's name, one behind the other, each ended by a byte 0, and answers how many
@@ -34,7 +30,8 @@ pub fn read_words(rt: &impl Env, count: usize, words: &mut [u8]) -> usize
     at
 }
 
-// Puts a word at a place, and answers the place behind its byte 0.
+// Puts a word at a place, and answers the place behind its byte 0; the buffer's end where it does not fit.
+// Kept: a full buffer is what the programs refuse as too long; `read_words`, the only caller, would turn a `None` back into the buffer's length.
 fn read_word(rt: &impl Env, i: usize, words: &mut [u8], at: usize) -> usize
     requires { at ≤ length words.old }
     ensures { WordRead words.old words.new at result }
@@ -59,6 +56,7 @@ fn end_word(words: &mut [u8], end: usize) -> usize
 
 // Reads the input, where the words are such that it is asked for, and answers how many bytes it takes. A read that fails ends the input, and its error is
 // the new `outcome`.
+// Kept: `outcome` is lent and no `Result` comes back, since an error ends nothing: what was read before it is used, and the answer is still written.
 pub fn read_input(
     rt: &impl Input,
     words: &[u8],

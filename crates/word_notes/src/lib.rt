@@ -9,6 +9,11 @@ ghost use Rattle.word_notes.specs.Notes.{excerpt, unknown_text, twice_text, word
 use plan_words::{WordPlace, WordsError};
 use text_line::Line;
 
+// Words are shorter than this many bytes, with the byte 0 behind each, and an input than that many: buffers of these sizes tell which is too long.
+pub const WORDS_ROOM: usize = 4096;
+
+pub const INPUT_ROOM: usize = 65_536;
+
 // Whether the words are accepted, so that the input is asked for.
 #[tactic(auto, unfolding(crate::specs::Notes::wants_input))]
 pub fn wants_input(words: &[u8]) -> bool

@@ -1,7 +1,7 @@
 -- `plan_ratios::token_end` meets its contract.
 use Rattle.std.proofs.Common.{ℕ, ◌+◌, drop, ap, sym, arith, length-drop}
 use Rattle.plan_text.proofs.ByteLaws.{reach_some, reach_none}
-use Rattle.plan_ratios.specs.Walk.{is_end}
+use Rattle.plan_text.specs.Lines.{is_end}
 use Rattle.plan_ratios.proofs.token_end.Goals as goal
 
 pub returns-in-Some : goal.returns-in-Some

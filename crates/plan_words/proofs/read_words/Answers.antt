@@ -5,12 +5,14 @@ use Rattle.std.proofs.lemmas.Result.{err_from_is_err_and}
 use Rattle.plan_text.proofs.ByteLaws.{found_most}
 use Rattle.plan_words.specs.Line.{is_end, words_of}
 use Rattle.plan_words.proofs.OptionLaws.{present, missing}
-use Rattle.plan_words.proofs.LineLaws.{at_unknown, at_twice, at_once, at_last}
+use Rattle.plan_words.proofs.LineLaws.{none_given, at_unknown, at_twice, at_once, at_last}
 use Rattle.plan_words.proofs.read_words.Goals as goal
 
 pub loop-at-init : goal.loop-at-init
 unfolding words_of
-loop-at-init c = rw c.nothing-settings.ensures
+loop-at-init c =
+    let e = c.default-settings.ensures in
+    rw (none_given _ e.0 e.1.0 e.1.1.0 e.1.1.1.0 e.1.1.1.1.0 e.1.1.1.1.1.0 e.1.1.1.1.1.1.0 e.1.1.1.1.1.1.1)
 
 pub slice_bounds-read_word-end : goal.slice_bounds-read_word-end
 slice_bounds-read_word-end c =

@@ -11,29 +11,29 @@ use Rattle.text_line.proofs.LineLaws.{more}
 use Rattle.text_line.proofs.DecibelsLaws.{nought, infinity, is_finite, is_infinite, is_nan}
 use Rattle.text_line.proofs.decibels.Line.decibels.Goals as goal
 
-pub returns-then-magnitude-infinity : goal.returns-then-magnitude-infinity
-returns-then-magnitude-infinity c =
+pub returns-then-magnitude : goal.returns-then-magnitude
+returns-then-magnitude c =
     c.finite.ensures
     ∙ ap (λ (t : List ℕ). cut (text_of c.args.self ++ t))
     (ap (finite_text (lt c.args.x nought)) (c.hundredths.ensures ∙ ap hundredths_of c.abs-magnitude.ensures)
-    ∙ sym (is_finite c.args.x (subst (λ (y : Float). lt y infinity ≡ true) c.abs-magnitude.ensures c.if-magnitude-infinity.true)))
+    ∙ sym (is_finite c.args.x (subst (λ (y : Float). lt y infinity ≡ true) c.abs-magnitude.ensures c.if-magnitude.true)))
 
-pub returns-then-magnitude-infinity-2 : goal.returns-then-magnitude-infinity-2
-returns-then-magnitude-infinity-2 c =
+pub returns-then-magnitude-2 : goal.returns-then-magnitude-2
+returns-then-magnitude-2 c =
     let t = text_of c.args.self in
     let x = c.args.x in
     more t (minus_text (lt x nought)) (text "inf") c.minus.ensures c.text.ensures
     ∙ ap (λ (u : List ℕ). cut (t ++ u))
     (sym
     (is_infinite x
-    (subst (λ (y : Float). lt y infinity ≡ false) c.abs-magnitude.ensures c.if-magnitude-infinity.false)
-    (subst (λ (y : Float). eq y infinity ≡ true) c.abs-magnitude.ensures c.if-magnitude-infinity-2.true)))
+    (subst (λ (y : Float). lt y infinity ≡ false) c.abs-magnitude.ensures c.if-magnitude.false)
+    (subst (λ (y : Float). eq y infinity ≡ true) c.abs-magnitude.ensures c.if-magnitude-2.true)))
 
-pub returns-else-magnitude-infinity-2 : goal.returns-else-magnitude-infinity-2
-returns-else-magnitude-infinity-2 c =
-    c.text-else-magnitude-infinity-2.ensures
+pub returns-else-magnitude-2 : goal.returns-else-magnitude-2
+returns-else-magnitude-2 c =
+    c.text-else-magnitude-2.ensures
     ∙ ap (λ (u : List ℕ). cut (text_of c.args.self ++ u))
     (sym
     (is_nan c.args.x
-    (subst (λ (y : Float). lt y infinity ≡ false) c.abs-magnitude.ensures c.if-magnitude-infinity.false)
-    (subst (λ (y : Float). eq y infinity ≡ false) c.abs-magnitude.ensures c.if-magnitude-infinity-2.false)))
+    (subst (λ (y : Float). lt y infinity ≡ false) c.abs-magnitude.ensures c.if-magnitude.false)
+    (subst (λ (y : Float). eq y infinity ≡ false) c.abs-magnitude.ensures c.if-magnitude-2.false)))

@@ -1,11 +1,11 @@
--- `plan_page::page::Accepted::line` meets its contract.
+-- `plan_page::accepted::Accepted::line` meets its contract.
 use mathlib.Core.Path.{sym, ap, ◌∙◌}
 use Prim.Native.Nat.{◌-◌}
 use Rattle.std.specs.Prelude.{Some}
 use Rattle.layout.specs.declared.Layout.{Layout}
 use Rattle.plan_page.specs.Rows.{subband_line}
 use Rattle.plan_page.proofs.PageLaws.{in_head, in_rows, in_foot}
-use Rattle.plan_page.proofs.page.Accepted.line.Goals as goal
+use Rattle.plan_page.proofs.accepted.Accepted.line.Goals as goal
 
 pub returns-then-n-lt6 : goal.returns-then-n-lt6
 returns-then-n-lt6 c = c.head_line.ensures ∙ sym (in_head _ _ _ _ _ _ _ c.if-n-lt6.true)
