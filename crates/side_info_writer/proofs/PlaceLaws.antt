@@ -1,6 +1,6 @@
 -- A field's place as the code finds it, and what it says of the questions and of the bits.
 use mathlib.Core.Path.{◌≡◌, refl, sym, ap, ap₂, ◌∙◌}
-use mathlib.Core.Bool.{Bool, true, false, cond}
+use mathlib.Core.Bool.{Bool, true, false, not, cond, ◌&&◌}
 use mathlib.Core.List.{List, ◌∷◌, ◌++◌}
 use Prim.Native.Nat.{ℕ, zero, suc, ◌+◌, ◌^◌, ◌<◌}
 use native.Mathlib.Nat.{zero-add}
@@ -21,6 +21,7 @@ use Rattle.bit_string.specs.Bits.{bits_of}
 use Rattle.bit_string.proofs.BitLaws.{length_bits}
 use Rattle.side_info.specs.declared.SideInfo.{SideInfo}
 use Rattle.side_info.specs.SideInfo.{shared_asked, row_asked, field_asked, allocation_field_bits}
+use Rattle.side_info.proofs.ShareLaws.{shared_is}
 use Rattle.side_info_writer.specs.declared.WriteError.{WriteError}
 use Rattle.side_info_writer.specs.declared.WriteError.TheVariants.{StepsDiffer, StepsNotInRow}
 use Rattle.side_info_writer.specs.Written.{error_number}
@@ -28,15 +29,27 @@ use Rattle.side_info_writer.specs.OnTheWay.{found_by, found}
 
 -- ---- as the code finds it
 
-module _ (t : BitAllocTable) (x : AllocationField) (r : SideInfo) where
-  pub unequal : (shared_asked r x).yes ≡ false → Err StepsDiffer ≡ found t x r
-  unfolding found
-  unequal e = ap (λ (b : Bool). found_by b (index_of t x.subband (field_steps r.steps x))) (sym e)
+-- both channels are asked of a field that serves both, and of no other
+same_or_not : (both equal : Bool) → cond both equal true ≡ not (both && not equal)
+same_or_not true true = refl
+same_or_not true false = refl
+same_or_not false equal = refl
 
-  module _ (n : ℕ) (e : (shared_asked r x).yes ≡ true) (h : n ≡ field_steps r.steps x) where
-    pub placed : (o : Option ℕ) → o ≡ index_of t x.subband n → ok_or o StepsNotInRow ≡ found t x r
+module _ (t : BitAllocTable) (x : AllocationField) (r : SideInfo) (channel : x.channel < 2) where
+  abbrev differ : Bool
+  differ = x.both && not (eqb (get_or r.steps (32 + x.subband) 0) (get_or r.steps x.subband 0))
+
+  shared : (shared_asked r x).yes ≡ not differ
+  shared = sym (shared_is r x channel) ∙ same_or_not x.both (eqb (get_or r.steps (32 + x.subband) 0) (get_or r.steps x.subband 0))
+
+  pub unequal : differ ≡ true → Err StepsDiffer ≡ found t x r
+  unfolding found
+  unequal e = ap (λ (b : Bool). found_by b (index_of t x.subband (field_steps r.steps x))) (sym (shared ∙ ap not e))
+
+  module _ (e : differ ≡ false) where
+    pub placed : (o : Option ℕ) → o ≡ index_of t x.subband (field_steps r.steps x) → ok_or o StepsNotInRow ≡ found t x r
     unfolding found
-    placed o q = ap₂ found_by (sym e) (q ∙ ap (index_of t x.subband) h)
+    placed o q = ap₂ found_by (sym (shared ∙ ap not e)) q
 
 -- ---- what a place says
 

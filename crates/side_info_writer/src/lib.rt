@@ -6,8 +6,8 @@ ghost use mathlib.Core.List.{[], flat_map};
 ghost use Rattle.active_slots.specs.Active.{listed};
 ghost use Rattle.audio_data.specs.Scfsi.{sent, three_in};
 ghost use Rattle.bit_string.specs.Bits.{bits_of};
-ghost use Rattle.layout.specs.Layout.{field_steps, fields_of};
-ghost use Rattle.side_info.specs.SideInfo.{shared_asked, tabled, allocation_field_bits, scfsi_bits, scalefactor_bits, side_info_bits, field_asked, record_asked};
+ghost use Rattle.layout.specs.Layout.{fields_of};
+ghost use Rattle.side_info.specs.SideInfo.{tabled, allocation_field_bits, scfsi_bits, scalefactor_bits, side_info_bits, field_asked, record_asked};
 ghost use Rattle.header.specs.Questions.{number};
 ghost use Rattle.side_info_writer.specs.declared.WriteError.TheVariants.{Header};
 ghost use Rattle.side_info_writer.specs.Written.{error_number, written_in, WrittenIs};
@@ -108,28 +108,7 @@ fn write_sections(layout: Layout, info: &SideInfo, writer: &mut BitWriter) -> Re
     Ok(())
 }
 
-// Whether the channels that a field serves have the same steps.
-fn agree(field: AllocationField, info: &SideInfo) -> bool
-    requires { (field.channel < 2) × (field.subband < 32) }
-    ensures { result ≡ (shared_asked info.now field).yes }
-{
-    let sb = field.subband;
-    if field.both {
-        info.steps[32 + sb] == info.steps[sb]
-    } else {
-        true
-    }
-}
-
-// The steps of its first channel.
-fn held(field: AllocationField, info: &SideInfo) -> u32
-    requires { (field.channel < 2) × (field.subband < 32) }
-    ensures { result ≡ field_steps info.now.steps field }
-{
-    info.steps[32 * field.channel + field.subband]
-}
-
-// The place of the steps in the field's row.
+// The place of a field's steps in its row, where the channels that it serves have the same.
 fn field_place(
     table: BitAllocTable,
     field: AllocationField,
@@ -138,12 +117,13 @@ fn field_place(
     requires { (field.channel < 2) × (field.subband < 32) }
     ensures { result ≡ found table field info.now }
 {
-    if !agree(field, info) {
+    let sb = field.subband;
+    let steps_differ = field.both & (info.steps[32 + sb] != info.steps[sb]);
+    if steps_differ {
         return Err(WriteError::StepsDiffer);
     }
-    let nb_steps = held(field, info);
     table
-        .allocation_index(field.subband, nb_steps)
+        .allocation_index(sb, info.steps[32 * field.channel + sb])
         .ok_or(WriteError::StepsNotInRow)
 }
 
