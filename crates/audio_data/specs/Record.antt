@@ -1,4 +1,4 @@
--- The record of a frame's side information before anything is allocated, and beside a refusal.
+-- The record of a frame's side information before anything is allocated, in a layout and in none.
 use Rattle.std.specs.Prelude.{ℕ, replicate}
 use Rattle.bitalloc.specs.declared.BitAllocTable.{BitAllocTable}
 use Rattle.bitalloc.specs.declared.BitAllocTable.TheVariants.{B2a}
@@ -23,6 +23,6 @@ idle table sblimit bound channels = record {
 unfoldable pub fresh : Layout → AudioData
 fresh l = idle l.table (limit_of l) l.bound l.channels
 
--- what stands beside a refusal
+-- nothing allocated, in no layout
 unfoldable pub filler : AudioData
 filler = idle B2a 0 0 0

@@ -34,6 +34,10 @@ pub record Three : Type 0 where
 abbrev pub three : ℕ → ℕ → ℕ → Three
 three a b c = record { first = a; second = b; third = c }
 
+-- three in a row
+abbrev pub three_in : List ℕ → Three
+three_in xs = three (get_or xs 0 0) (get_or xs 1 0) (get_or xs 2 0)
+
 -- The indices that travel, in order. Granules that share an index agree on it; granule 0's stands for 0 and 1 and for all three,
 -- granule 2's for 1 and 2.
 abbrev pub sent : Scfsi → Three → List ℕ

@@ -24,7 +24,7 @@ pub enum Scfsi {
 
 impl Scfsi {
     // The scfsi of a two-bit code (2.4.3.3.2); a number above 3 is taken as 3.
-    // Kept: `From<u8>` would hide that a number above 3 has an answer too, and `TryFrom` would refuse what this cannot.
+    // Kept: a code has two bits, each of the four names a case and nothing is refused, where `TryFrom` has an error; C's bytes are asked for `<= 3` where they come in.
     pub fn of_code(code: u8) -> Scfsi
         ensures { result ≡ of_code code }
     {
@@ -37,6 +37,7 @@ impl Scfsi {
     }
 
     // The two-bit code (2.4.2.6).
+    // Kept: a cast of the discriminant under the standard's word; `u8::from(scfsi)` would not say which number it gives.
     pub fn code(self) -> u8
         ensures { CodeIs self result }
     {
@@ -58,7 +59,7 @@ impl Scfsi {
 }
 
 // The side information of one frame.
-// Kept: an array for each section of 2.4.1.6, since C hands over and takes each by itself, and nothing may be allocated.
+// Kept: the fields are those of the Rust's record of this name; a layout and a `SideInfo` within the record would give each figure two names.
 #[derive(Clone, Copy)]
 pub struct AudioData {
     pub table: BitAllocTable,
@@ -90,7 +91,7 @@ impl AudioData {
         }
     }
 
-    // What stands beside a refusal: nothing allocated, and each slot with three scalefactors of index 0.
+    // Nothing allocated, in no layout: each slot is idle, with three scalefactors of index 0.
     pub fn filler() -> AudioData
         ensures { result ≡ filler }
     {

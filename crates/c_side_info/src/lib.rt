@@ -12,7 +12,6 @@ ghost use Rattle.c_side_info.specs.Replies.{bytes_written, bits_written, bytes_c
 use c_answers::arguments::HeaderNumbers;
 use c_answers::refusal::Refusal;
 use c_answers::writing;
-use record_checker::RecordError;
 
 mod record;
 mod replies;
@@ -40,6 +39,7 @@ pub fn write_side_info(
 {
     let frame = record.frame(given, (bytes.len() < 174) | (out.len() < 1))?;
     let written = side_info_writer::write_side_info(frame.header, &frame.side);
+    let written = written.map_err(|error| error.number());
     Ok(put_written(written, bytes, out))
 }
 
@@ -64,6 +64,7 @@ pub fn write_side_info_canonical(
 {
     let frame = record.frame(given, (bytes.len() < 174) | (out.len() < 1))?;
     let written = canonical_writer::write_side_info_canonical(frame.header, &frame.side);
+    let written = written.map_err(|error| error.number());
     Ok(put_written(written, bytes, out))
 }
 
@@ -82,14 +83,7 @@ pub fn check_record(
     let frame = record.frame(given, out.len() < 2)?;
     let (number, place) = match record_checker::check_record(frame.header, &frame.side) {
         Ok(()) => (0, [0, 0]),
-        Err(RecordError::Header(error)) => (error.number(), [0, 0]),
-        Err(
-            RecordError::Slot {
-                error,
-                subband,
-                channel,
-            },
-        ) => (error.number(), [subband, channel]),
+        Err(error) => (error.number(), error.place()),
     };
     writing::put(&place, out);
     Ok(number)

@@ -47,6 +47,7 @@ pub fn read_side_info(
         (bits_read bytes.now))
         out.old (number_in result) out.new }
 {
+    // Kept: one test, as in the clauses; `first_chunk_mut` of each slice would lend all four before the header is read, and add four returns to each of four clauses.
     let short = (steps.len() < 64) | ((scfsi.len() < 64) | ((index.len() < 192) | (out.len() < 1)));
     let header = given.header(short)?;
     let (number, read) = match side_info_reader::read_side_info(header, bytes) {

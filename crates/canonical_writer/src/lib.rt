@@ -2,7 +2,7 @@
 #![tactic(auto)]
 
 ghost use Rattle.std.specs.Prelude.{◌≡◌};
-ghost use Rattle.audio_data.specs.Scfsi.{three};
+ghost use Rattle.audio_data.specs.Scfsi.{three_in};
 ghost use Rattle.canonical_form.specs.Fewest.{FewestIs, chosen};
 ghost use Rattle.canonical_form.specs.Canonical.{CanonicalIs};
 ghost use Rattle.canonical_writer.specs.declared.CanonicalError.TheVariants.{Check, Write};
@@ -73,21 +73,20 @@ pub fn write_side_info_canonical(
 fn chosen(info: &SideInfo) -> [Scfsi; 64]
     ensures { result ≡ chosen info.now }
 {
-    let indices = &info.scalefactors;
     let mut slots = [Scfsi::ThreePerGranule; 64];
     for slot in 0..64 {
-        let at = 3 * slot;
-        slots[slot] = fewest_scfsi(indices[at], indices[at + 1], indices[at + 2]);
+        slots[slot] = fewest_scfsi(info.granules(slot));
     }
     slots
 }
 
 // The scfsi that carries three indices with the fewest sent: one where all agree, two where only two neighbours do, else three. The indices stay as they
 // are: `select_scfsi` of encoder_scfsi, which may change them, is another choice.
-pub fn fewest_scfsi(a: u8, b: u8, c: u8) -> Scfsi
-    ensures { FewestIs (three a b c) result }
+pub fn fewest_scfsi(indices: [u8; 3]) -> Scfsi
+    ensures { FewestIs (three_in indices) result }
 {
-    match (a == b, b == c) {
+    let [first, second, third] = indices;
+    match (first == second, second == third) {
         (true, true) => Scfsi::ShareAll,
         (true, false) => Scfsi::Share01Then2,
         (false, true) => Scfsi::Share0Then12,

@@ -8,7 +8,7 @@ ghost use Rattle.audio_data.specs.Scfsi.{agreeing};
 ghost use Rattle.side_info.specs.SideInfo.{scfsi_in, scalefactors_in};
 ghost use Rattle.record_check.specs.Check.{slot_asked, CheckIs};
 ghost use Rattle.record_checker.specs.declared.RecordError.TheVariants.{Header};
-ghost use Rattle.record_checker.specs.Errors.{slot_number, error_in, check_in};
+ghost use Rattle.record_checker.specs.Errors.{slot_number, error_in, place_in, check_in};
 ghost use Rattle.record_checker.specs.OnTheWay.{refusal_number, check_under};
 
 use audio_data::Scfsi;
@@ -63,6 +63,18 @@ impl RecordError {
             RecordError::Slot { error, .. } => error.number(),
         }
     }
+
+    // The subband and the channel that it is about; a header's refusal is about none, and has zeros.
+    pub fn place(self) -> [u32; 2]
+        ensures { result ≡ place_in (error_in self) }
+    {
+        match self {
+            RecordError::Header(_) => [0, 0],
+            RecordError::Slot {
+                subband, channel, ..
+            } => [subband, channel],
+        }
+    }
 }
 
 impl From<BitAllocError> for RecordError {
@@ -105,17 +117,12 @@ fn agreeing(info: &SideInfo, slot: usize) -> bool
     requires { slot < 64 }
     ensures { result ≡ agreeing (scfsi_in info.now slot) (scalefactors_in info.now slot) }
 {
-    let at = 3 * slot;
-    let indices = [
-        info.scalefactors[at],
-        info.scalefactors[at + 1],
-        info.scalefactors[at + 2],
-    ];
+    let [first, second, third] = info.granules(slot);
     match info.scfsi[slot] {
         Scfsi::ThreePerGranule => true,
-        Scfsi::Share01Then2 => indices[0] == indices[1],
-        Scfsi::ShareAll => (indices[0] == indices[1]) & (indices[1] == indices[2]),
-        Scfsi::Share0Then12 => indices[1] == indices[2],
+        Scfsi::Share01Then2 => first == second,
+        Scfsi::ShareAll => (first == second) & (second == third),
+        Scfsi::Share0Then12 => second == third,
     }
 }
 
@@ -136,12 +143,12 @@ fn check_slot(layout: Layout, ch: usize, sb: usize, info: &SideInfo) -> Result<(
         };
     };
     let field = layout.field(number as usize);
-    let free = empty | agreeing(info, slot);
-    let differ = field.both & (info.steps[32 + sb] != info.steps[sb]);
-    if differ {
+    let steps_differ = field.both & (info.steps[32 + sb] != info.steps[sb]);
+    if steps_differ {
         return Err(SlotError::StepsDiffer);
     }
-    if !free {
+    let indices_agree = empty | agreeing(info, slot);
+    if !indices_agree {
         return Err(SlotError::IndicesDiffer);
     }
     Ok(())

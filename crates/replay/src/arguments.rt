@@ -66,6 +66,7 @@ pub fn record_of(numbers: &[u64]) -> Option<(SideInfo, &[u64])> {
     Some((info, rest))
 }
 
+// Kept: a loop, since an array's `map` cannot end at a number that does not fit.
 fn steps_of(numbers: &[u64; 64]) -> Option<[u32; 64]> {
     let mut steps = [0; 64];
     for (step, n) in steps.iter_mut().zip(numbers) {

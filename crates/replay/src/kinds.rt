@@ -5,6 +5,7 @@ use crate::{budget_kinds, sample_kinds, scalefactor_kinds, side_info_kinds, tabl
 use replay_answers::Verdict;
 use std::fmt;
 
+// Kept: `ALL`, `verdict` and the names list the kinds once each: Rust has no list of an enum's cases, and one table of names and functions would call through pointers.
 #[derive(Clone, Copy)]
 pub enum Kind {
     Sblimit,

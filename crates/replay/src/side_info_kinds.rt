@@ -3,7 +3,6 @@ use crate::answers::packed;
 use crate::arguments::{bytes_of, header_of, record_of};
 use audio_data::Scfsi;
 use header::FrameHeader;
-use record_checker::RecordError;
 use replay_answers::{Verdict, verdict_on};
 use side_info::SideInfo;
 use side_info_writer::WrittenSideInfo;
@@ -86,14 +85,10 @@ pub fn check_record(numbers: &[u64]) -> Option<Verdict> {
     let (info, expected) = record_of(rest)?;
     let answers = match record_checker::check_record(header, &info) {
         Ok(()) => [0; 3],
-        Err(RecordError::Header(error)) => [error.number(), 0, 0],
-        Err(
-            RecordError::Slot {
-                error,
-                subband,
-                channel,
-            },
-        ) => [error.number(), subband, channel],
+        Err(error) => {
+            let [subband, channel] = error.place();
+            [error.number(), subband, channel]
+        }
     };
     verdict_on(expected, &answers.map(u64::from))
 }

@@ -11,17 +11,19 @@ pub enum Verdict {
     Differ,
 }
 
-impl Verdict {
-    pub fn of(agrees: bool) -> Verdict
-        ensures { result ≡ verdict agrees }
-    {
+impl From<bool> for Verdict {
+    ghost from_gives = { λ agrees result. result ≡ verdict agrees };
+
+    fn from(agrees: bool) -> Verdict {
         if agrees {
             Verdict::Agree
         } else {
             Verdict::Differ
         }
     }
+}
 
+impl Verdict {
     // The verdict on two parts of a line.
     pub fn and(self, other: Verdict) -> Verdict
         ensures { result ≡ both self other }
@@ -38,7 +40,7 @@ pub fn verdict_on(expected: &[u64], answers: &[u64]) -> Option<Verdict>
     ensures { result ≡ verdict_on expected.now answers.now }
 {
     if expected.len() == answers.len() {
-        Some(Verdict::of(expected == answers))
+        Some(Verdict::from(expected == answers))
     } else {
         None
     }

@@ -40,7 +40,7 @@ few_active l steps = omega (arith, active_among_lem steps (slots_of l), few_slot
 -- ---- the bits
 
 -- the indices that a scfsi sends: as many as it says
-six : (s : Scfsi) (t : Three) → length (flat_map (bits_of 6) (sent s t)) ≡ 6 * parts_of s
+pub six : (s : Scfsi) (t : Three) → length (flat_map (bits_of 6) (sent s t)) ≡ 6 * parts_of s
 six s t = length_flat (bits_of 6) (λ i. 6) (length_bits 6) (sent s t) ∙ go s
   where
     go : (s : Scfsi) → sum_over (λ i. 6) (sent s t) ≡ 6 * parts_of s

@@ -1,5 +1,10 @@
-// The side information of a frame as bits: the record of it, which bits it is, and what is asked of it before they are written. No function stands here.
+// The side information of a frame as bits: the record of it, which bits it is, and what is asked of it before they are written. One function stands here: the
+// indices of a slot.
 #![tactic(auto)]
+
+ghost use Rattle.std.specs.Prelude.{◌≡◌};
+ghost use Rattle.audio_data.specs.Scfsi.{three_in};
+ghost use Rattle.side_info.specs.SideInfo.{scalefactors_in};
 
 use audio_data::Scfsi;
 
@@ -13,4 +18,19 @@ pub struct SideInfo {
     pub scfsi: [Scfsi; 64],
     // At 3 * slot + granule: the index into Table 3-B.1.
     pub scalefactors: [u8; 192],
+}
+
+impl SideInfo {
+    // The scalefactor indices of a slot, one for each granule; zeros where there is no such slot.
+    pub fn granules(&self, slot: usize) -> [u8; 3]
+        ensures { three_in result ≡ scalefactors_in self.now slot }
+    {
+        if slot < 64 {
+            let at = 3 * slot;
+            let indices = &self.scalefactors;
+            [indices[at], indices[at + 1], indices[at + 2]]
+        } else {
+            [0; 3]
+        }
+    }
 }

@@ -5,7 +5,7 @@ use Rattle.bitalloc.specs.declared.BitAllocTable.{BitAllocTable}
 use Rattle.bitalloc.specs.Tables.{row_of}
 use Rattle.layout.specs.declared.Layout.{Layout}
 use Rattle.bit_string.specs.Bits.{unpacked}
-use Rattle.audio_data.specs.Scfsi.{Three, three}
+use Rattle.audio_data.specs.Scfsi.{Three, three_in}
 use Rattle.side_info_reading.specs.Taken.{Taken, got, refused}
 use Rattle.side_info_reading.specs.Reading.{side_info_taken}
 use Rattle.side_info_reading.specs.Read.{ReadAnswer, read_by}
@@ -17,9 +17,6 @@ pub record StepsAt (t : BitAllocTable) (sb place r : ℕ) : Type 0 where
   pub most : r ≤ 65535
 
 -- ---- three indices
-
-abbrev pub three_in : List ℕ → Three
-three_in indices = three (get_or indices 0 0) (get_or indices 1 0) (get_or indices 2 0)
 
 abbrev pub three_by : Result (List ℕ) ReadError → List Bool → Taken Three
 three_by (Ok indices) rest = got (three_in indices) rest

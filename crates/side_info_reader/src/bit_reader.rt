@@ -9,6 +9,7 @@ ghost use Rattle.side_info_reader.specs.Errors.{taken_by};
 use crate::ReadError;
 use std::marker::Model;
 
+// Kept: the index beside its slice; a slice of what is still to come would lose how many bytes are taken, which `bits_used` answers.
 #[derive(Drop)]
 pub struct BitReader<'a> {
     bytes: &'a [u8],

@@ -3,12 +3,13 @@
 
 ghost use Rattle.std.specs.Prelude.{◌≡◌, ◌≤◌, ◌<◌, length};
 ghost use Rattle.active_slots.specs.Active.{listed};
+ghost use Rattle.audio_data.specs.Scfsi.{three_in};
 ghost use Rattle.side_info_reading.specs.Taken.{laid};
 ghost use Rattle.side_info_reading.specs.Reading.{in_slots, in_granules, allocation_taken, scfsis_taken, scalefactors_taken, index_taken, three_taken};
 ghost use Rattle.side_info_reading.specs.Read.{ReadIs};
 ghost use Rattle.side_info_reader.specs.declared.ReadError.TheVariants.{Header};
 ghost use Rattle.side_info_reader.specs.Errors.{error_number, taken_by, read_in};
-ghost use Rattle.side_info_reader.specs.OnTheWay.{StepsAt, three_in, three_by, read_under};
+ghost use Rattle.side_info_reader.specs.OnTheWay.{StepsAt, three_by, read_under};
 
 use active_slots::ActiveSlots;
 use audio_data::Scfsi;

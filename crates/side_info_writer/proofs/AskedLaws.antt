@@ -53,7 +53,7 @@ module _ (l : Layout) (r : SideInfo) where
   pub record PassedTo (f : ℕ) : Type 0 where
     pub decides : (rest : List (Question ℕ)) → number (fields_asked (fields_of l) ++ rest) ≡ number (fields_asked (drop f (fields_of l)) ++ rest)
 
-  module _ (f : ℕ) (x : AllocationField) (here : f < length (fields_of l)) (e : x ≡ field_in (fields_of l) f) (channel : x.channel < 2) (so_far : PassedTo f) where
+  module _ (f : ℕ) (x : AllocationField) (here : f < length (fields_of l)) (e : x ≡ field_in (fields_of l) f) (so_far : PassedTo f) where
     next_field : (rest : List (Question ℕ))
         → number (fields_asked (fields_of l) ++ rest) ≡ number (field_asked l r x ++ (fields_asked (drop (f + 1) (fields_of l)) ++ rest))
     next_field rest =
@@ -63,13 +63,12 @@ module _ (l : Layout) (r : SideInfo) where
         ∙ ap (λ (y : AllocationField). field_asked l r y ++ fields_asked (drop (f + 1) (fields_of l))) (sym e))
         ∙ ap number (append_assoc (field_asked l r x) (fields_asked (drop (f + 1) (fields_of l))) rest)
 
-    pub one_passed : (p : ℕ) → Ok p ≡ found l.table x (get_or r.steps x.subband 0) (get_or r.steps (32 + x.subband) 0) → PassedTo (f + 1)
-    one_passed p a = record { decides = λ rest. next_field rest ∙ place_passes l r x channel p a (fields_asked (drop (f + 1) (fields_of l)) ++ rest) }
+    pub one_passed : (p : ℕ) → Ok p ≡ found l.table x r → PassedTo (f + 1)
+    one_passed p a = record { decides = λ rest. next_field rest ∙ place_passes l r x p a (fields_asked (drop (f + 1) (fields_of l)) ++ rest) }
 
-    pub one_stopped : (error : WriteError) → Err error ≡ found l.table x (get_or r.steps x.subband 0) (get_or r.steps (32 + x.subband) 0)
-        → Stopped (fields_asked (fields_of l)) (error_number error)
+    pub one_stopped : (error : WriteError) → Err error ≡ found l.table x r → Stopped (fields_asked (fields_of l)) (error_number error)
     one_stopped error a = record {
-      decides = λ rest. next_field rest ∙ place_stops l r x channel error a (fields_asked (drop (f + 1) (fields_of l)) ++ rest);
+      decides = λ rest. next_field rest ∙ place_stops l r x error a (fields_asked (drop (f + 1) (fields_of l)) ++ rest);
     }
 
   pub all_passed : (f : ℕ) → length (fields_of l) ≤ f → PassedTo f → Passed (fields_asked (fields_of l))

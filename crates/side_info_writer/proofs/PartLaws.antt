@@ -1,10 +1,11 @@
 -- What is written slot by slot and field by field: a part, and the parts so far.
 use mathlib.Core.Path.{◌≡◌, refl, sym, ap, ◌∙◌}
 use mathlib.Core.Bool.{Bool, true, false, ◌&&◌, true≢false}
-use mathlib.Core.List.{List, ◌++◌, append-nil, append_assoc, flat_map}
-use Prim.Native.Nat.{ℕ, ◌+◌, ◌≤◌, ◌<◌}
+use mathlib.Core.Logic.{◌⊎◌, inl, inr}
+use mathlib.Core.List.{List, [], ◌∷◌, ◌++◌, append-nil, append_assoc, flat_map}
+use Prim.Native.Nat.{ℕ, ◌+◌, ◌*◌, ◌≤◌, ◌<◌}
 use native.Mathlib.Omega.{arith}
-use lib.Dec.{eqb, leb, ltb}
+use lib.Dec.{leb}
 use lib.ListN.{length, get_or, drop, length-append}
 use borrow.Author.Tests.{leb-true}
 use Rattle.layout.specs.declared.Layout.{Layout}
@@ -17,9 +18,8 @@ use Rattle.bit_string.specs.Bits.{bits_of}
 use Rattle.bit_string.proofs.BitLaws.{length_bits}
 use Rattle.side_info.specs.declared.SideInfo.{SideInfo}
 use Rattle.side_info.specs.SideInfo.{tabled, allocation_field_bits}
-use Rattle.side_info.proofs.CountLaws.{fields_count}
+use Rattle.side_info.proofs.CountLaws.{six, fields_count}
 use Rattle.side_info.proofs.FlatLaws.{flat_next, flat_end}
-use Rattle.side_info_writer.specs.OnTheWay.{where_sent}
 
 -- ---- the indices of a slot
 
@@ -39,54 +39,50 @@ tabled_each t e =
     let each = each_tabled (leb t.first 62) (leb t.second 62) (leb t.third 62) e in
     record { first = leb-true t.first 62 each.0; second = leb-true t.second 62 each.1; third = leb-true t.third 62 each.2 }
 
--- the second is sent where three are, the third where more than one is
-by_scfsi : (s : Scfsi) (t : Three)
-    → flat_map (bits_of 6) (sent s t) ≡ where_sent true t.first ++ (where_sent (eqb (parts_of s) 3) t.second ++ where_sent (ltb 1 (parts_of s)) t.third)
-unfolding flat_map
-by_scfsi ThreePerGranule t = ap (λ (bs : List Bool). bits_of 6 t.first ++ (bits_of 6 t.second ++ bs)) (append-nil (bits_of 6 t.third))
-by_scfsi Share01Then2 t = ap (λ (bs : List Bool). bits_of 6 t.first ++ bs) (append-nil (bits_of 6 t.third))
-by_scfsi ShareAll t = refl
-by_scfsi Share0Then12 t = ap (λ (bs : List Bool). bits_of 6 t.first ++ bs) (append-nil (bits_of 6 t.third))
+-- an index more
+pub one_more : (now start : List Bool) (i : ℕ) → now ≡ start ++ bits_of 6 i → length now ≡ length start + 6
+one_more now start i e = ap length e ∙ length-append start (bits_of 6 i) ∙ ap (λ (n : ℕ). length start + n) (length_bits 6 i)
 
--- an index that is sent, and one that is not
-pub sent_long : (b : Bool) (i : ℕ) → b ≡ true → length (where_sent b i) ≡ 6
-sent_long b i e = rw e (length_bits 6 i)
+-- there is room for each index that is sent, and one is
+module _ (t : Three) (start : List Bool) where
+  pub room : (s : Scfsi) → length start + length (flat_map (bits_of 6) (sent s t)) ≤ 1392 → length start + 6 * parts_of s ≤ 1392
+  room s h = let e = six s t in omega arith
 
-pub sent_one : (b : Bool) (i : ℕ) (start now : List Bool) → b ≡ true → now ≡ start ++ bits_of 6 i → now ≡ start ++ where_sent b i
-sent_one b i start now e written = rw e written
+  abbrev first : List Bool
+  first = start ++ bits_of 6 t.first
 
-pub sent_none : (b : Bool) (i : ℕ) (start now : List Bool) → b ≡ false → now ≡ start → now ≡ start ++ where_sent b i
-sent_none b i start now e same = rw e (same ∙ sym (append-nil start))
+  abbrev third : List Bool
+  third = bits_of 6 t.third
 
--- the three, one after the other
-module _ (s : Scfsi) (t : Three) (parts : ℕ) (e : parts ≡ parts_of s) where
-  abbrev a : List Bool
-  a = where_sent true t.first
+  -- all three, the first and the third, the first alone
+  pub three_sent : (first ++ bits_of 6 t.second) ++ third ≡ start ++ flat_map (bits_of 6) (sent ThreePerGranule t)
+  unfolding flat_map
+  three_sent =
+      append_assoc first (bits_of 6 t.second) third
+      ∙ append_assoc start (bits_of 6 t.first) (bits_of 6 t.second ++ third)
+      ∙ ap (λ (bs : List Bool). start ++ (bits_of 6 t.first ++ (bits_of 6 t.second ++ bs))) (sym (append-nil third))
 
-  abbrev b : List Bool
-  b = where_sent (eqb parts 3) t.second
+  pub two_sent : (s : Scfsi) → (s ≡ Share01Then2) ⊎ (s ≡ Share0Then12) → first ++ third ≡ start ++ flat_map (bits_of 6) (sent s t)
+  unfolding flat_map
+  two_sent s e = append_assoc start (bits_of 6 t.first) third ∙ ap (λ (bs : List Bool). start ++ (bits_of 6 t.first ++ bs)) (sym (append-nil third)) ∙ ap (λ (bs : List Bool). start ++ bs) (sym (go e))
+    where
+      go : (s ≡ Share01Then2) ⊎ (s ≡ Share0Then12) → flat_map (bits_of 6) (sent s t) ≡ flat_map (bits_of 6) (t.first ∷ t.third ∷ [])
+      go (inl q) = ap (λ (v : Scfsi). flat_map (bits_of 6) (sent v t)) q
+      go (inr q) = ap (λ (v : Scfsi). flat_map (bits_of 6) (sent v t)) q
 
-  abbrev c : List Bool
-  c = where_sent (ltb 1 parts) t.third
+  pub one_sent : first ≡ start ++ flat_map (bits_of 6) (sent ShareAll t)
+  unfolding flat_map
+  one_sent = ap (λ (bs : List Bool). start ++ bs) (sym (append-nil (bits_of 6 t.first)))
 
-  apart : flat_map (bits_of 6) (sent s t) ≡ a ++ (b ++ c)
-  apart = rw e (by_scfsi s t)
+pub two_parts : (s : Scfsi) → (s ≡ Share01Then2) ⊎ (s ≡ Share0Then12) → parts_of s ≡ 2
+two_parts s (inl e) = ap parts_of e
+two_parts s (inr e) = ap parts_of e
 
-  long : length (flat_map (bits_of 6) (sent s t)) ≡ length a + (length b + length c)
-  long = ap length apart ∙ length-append a (b ++ c) ∙ ap (λ (n : ℕ). length a + n) (length-append b c)
-
-  module _ (start : List Bool) (h : length start + length (flat_map (bits_of 6) (sent s t)) ≤ 1392) where
-    pub first_fits : length start + length a ≤ 1392
-    first_fits = let l = long in omega arith
-
-    pub second_fits : length (start ++ a) + length b ≤ 1392
-    second_fits = let l = long in let m = length-append start a in omega arith
-
-    pub third_fits : length ((start ++ a) ++ b) + length c ≤ 1392
-    third_fits = let l = long in let m = length-append start a in let n = length-append (start ++ a) b in omega arith
-
-    pub three_written : ((start ++ a) ++ b) ++ c ≡ start ++ flat_map (bits_of 6) (sent s t)
-    three_written = append_assoc (start ++ a) b c ∙ append_assoc start a (b ++ c) ∙ ap (λ (bs : List Bool). start ++ bs) (sym apart)
+pub parts_least : (s : Scfsi) → 1 ≤ parts_of s
+parts_least ThreePerGranule = omega arith
+parts_least Share01Then2 = omega arith
+parts_least ShareAll = omega arith
+parts_least Share0Then12 = omega arith
 
 -- ---- one part for each entry of a list: those so far and those to come are the whole
 

@@ -1,6 +1,6 @@
 -- A field's place as the code finds it, and what it says of the questions and of the bits.
 use mathlib.Core.Path.{◌≡◌, refl, sym, ap, ap₂, ◌∙◌}
-use mathlib.Core.Bool.{Bool, true, false, cond}
+use mathlib.Core.Bool.{Bool, true, false, not, cond, ◌&&◌}
 use mathlib.Core.List.{List, ◌∷◌, ◌++◌}
 use Prim.Native.Nat.{ℕ, zero, suc, ◌+◌, ◌^◌, ◌<◌}
 use native.Mathlib.Nat.{zero-add}
@@ -16,7 +16,6 @@ use Rattle.bitalloc.specs.Tables.{sblimit_of, nbal_of, index_of}
 use Rattle.bitalloc.proofs.RowLaws.{index_small}
 use Rattle.layout.specs.declared.Layout.{Layout}
 use Rattle.layout.specs.declared.AllocationField.{AllocationField}
-use Rattle.layout.specs.Slots.{slot_of}
 use Rattle.layout.specs.Layout.{field_steps}
 use Rattle.bit_string.specs.Bits.{bits_of}
 use Rattle.bit_string.proofs.BitLaws.{length_bits}
@@ -26,19 +25,31 @@ use Rattle.side_info.proofs.ShareLaws.{shared_is}
 use Rattle.side_info_writer.specs.declared.WriteError.{WriteError}
 use Rattle.side_info_writer.specs.declared.WriteError.TheVariants.{StepsDiffer, StepsNotInRow}
 use Rattle.side_info_writer.specs.Written.{error_number}
-use Rattle.side_info_writer.specs.OnTheWay.{agree, held, found_by, found}
+use Rattle.side_info_writer.specs.OnTheWay.{found_by, found}
 
 -- ---- as the code finds it
 
-module _ (t : BitAllocTable) (x : AllocationField) (first second : ℕ) where
-  pub unequal : agree x first second ≡ false → Err StepsDiffer ≡ found t x first second
-  unfolding found
-  unequal e = rw e
+-- both channels are asked of a field that serves both, and of no other
+same_or_not : (both equal : Bool) → cond both equal true ≡ not (both && not equal)
+same_or_not true true = refl
+same_or_not true false = refl
+same_or_not false equal = refl
 
-  module _ (n : ℕ) (e : agree x first second ≡ true) (h : n ≡ held x first second) where
-    pub placed : (o : Option ℕ) → o ≡ index_of t x.subband n → ok_or o StepsNotInRow ≡ found t x first second
+module _ (t : BitAllocTable) (x : AllocationField) (r : SideInfo) (channel : x.channel < 2) where
+  abbrev differ : Bool
+  differ = x.both && not (eqb (get_or r.steps (32 + x.subband) 0) (get_or r.steps x.subband 0))
+
+  shared : (shared_asked r x).yes ≡ not differ
+  shared = sym (shared_is r x channel) ∙ same_or_not x.both (eqb (get_or r.steps (32 + x.subband) 0) (get_or r.steps x.subband 0))
+
+  pub unequal : differ ≡ true → Err StepsDiffer ≡ found t x r
+  unfolding found
+  unequal e = ap (λ (b : Bool). found_by b (index_of t x.subband (field_steps r.steps x))) (sym (shared ∙ ap not e))
+
+  module _ (e : differ ≡ false) where
+    pub placed : (o : Option ℕ) → o ≡ index_of t x.subband (field_steps r.steps x) → ok_or o StepsNotInRow ≡ found t x r
     unfolding found
-    placed o q = ap₂ found_by (sym e) (q ∙ ap (index_of t x.subband) h)
+    placed o q = ap₂ found_by (sym (shared ∙ ap not e)) q
 
 -- ---- what a place says
 
@@ -57,45 +68,29 @@ refused_only true (Some p) e q rest = absurd (let z : ◌≡◌ {A = ℕ} 0 1 = 
 pub field_long : (l : Layout) (r : SideInfo) (x : AllocationField) → length (allocation_field_bits l r x) ≡ nbal_of l.table x.subband
 field_long l r x = length_bits (nbal_of l.table x.subband) (or_zero (index_of l.table x.subband (field_steps r.steps x)))
 
-held_by : (steps : List ℕ) (sb ch : ℕ) → ch < 2 → cond (eqb ch 0) (get_or steps sb 0) (get_or steps (32 + sb) 0) ≡ get_or steps (slot_of ch sb) 0
-held_by steps sb zero h = ap (λ (k : ℕ). get_or steps k 0) (sym (zero-add sb))
-held_by steps sb (suc zero) h = refl
-held_by steps sb (suc (suc ch)) h = absurd (omega arith)
+module _ (l : Layout) (r : SideInfo) (x : AllocationField) where
+  abbrev agree : Bool
+  agree = (shared_asked r x).yes
 
-module _ (l : Layout) (r : SideInfo) (x : AllocationField) (channel : x.channel < 2) where
-  abbrev first : ℕ
-  first = get_or r.steps x.subband 0
+  abbrev index : Option ℕ
+  index = index_of l.table x.subband (field_steps r.steps x)
 
-  abbrev second : ℕ
-  second = get_or r.steps (32 + x.subband) 0
-
-  agree_is : agree x first second ≡ (shared_asked r x).yes
-  agree_is = shared_is r x channel
-
-  held_is : held x first second ≡ field_steps r.steps x
-  held_is = held_by r.steps x.subband x.channel channel
-
-  module _ (p : ℕ) (e : Ok p ≡ found l.table x first second) where
-    both : (agree x first second ≡ true) × (index_of l.table x.subband (held x first second) ≡ Some p)
+  module _ (p : ℕ) (e : Ok p ≡ found l.table x r) where
+    both : (agree ≡ true) × (index ≡ Some p)
     unfolding found
-    both = at_only (agree x first second) (index_of l.table x.subband (held x first second)) p e
-
-    index_is : index_of l.table x.subband (field_steps r.steps x) ≡ Some p
-    index_is = ap (index_of l.table x.subband) (sym held_is) ∙ both.1
+    both = at_only agree index p e
 
     pub place_small : x.subband < sblimit_of l.table → p < 2 ^ nbal_of l.table x.subband
-    place_small h = index_small l.table x.subband _ p h index_is
+    place_small h = index_small l.table x.subband _ p h both.1
 
     pub place_bits : bits_of (nbal_of l.table x.subband) p ≡ allocation_field_bits l r x
-    place_bits = ap (λ (o : Option ℕ). bits_of (nbal_of l.table x.subband) (or_zero o)) (sym index_is)
+    place_bits = ap (λ (o : Option ℕ). bits_of (nbal_of l.table x.subband) (or_zero o)) (sym both.1)
 
     pub place_passes : (rest : List (Question ℕ)) → number (field_asked l r x ++ rest) ≡ number rest
     place_passes rest =
-        said_yes 0 (shared_asked r x) (row_asked l r x ∷ rest) (sym agree_is ∙ both.0) ∙ said_yes 0 (row_asked l r x) rest (ap is_some index_is)
+        said_yes 0 (shared_asked r x) (row_asked l r x ∷ rest) both.0 ∙ said_yes 0 (row_asked l r x) rest (ap is_some both.1)
 
   -- where it is refused, the first question that says no has the error's number
-  pub place_stops : (e : WriteError) → Err e ≡ found l.table x first second → (rest : List (Question ℕ)) → number (field_asked l r x ++ rest) ≡ error_number e
+  pub place_stops : (e : WriteError) → Err e ≡ found l.table x r → (rest : List (Question ℕ)) → number (field_asked l r x ++ rest) ≡ error_number e
   unfolding found
-  place_stops e q rest =
-      ap₂ (λ (b : Bool) (m : ℕ). elim b [ true ↦ elim (is_some (index_of l.table x.subband m)) [ true ↦ number rest | false ↦ 7 ] | false ↦ 6 ]) (sym agree_is) (sym held_is)
-      ∙ refused_only (agree x first second) (index_of l.table x.subband (held x first second)) e q (number rest)
+  place_stops e q rest = refused_only agree index e q (number rest)

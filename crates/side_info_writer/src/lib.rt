@@ -4,14 +4,14 @@
 ghost use Rattle.std.specs.Prelude.{◌≡◌, true, ◌+◌, ◌≤◌, ◌<◌, ◌++◌, length, MatchResult, OnOk};
 ghost use mathlib.Core.List.{[], flat_map};
 ghost use Rattle.active_slots.specs.Active.{listed};
-ghost use Rattle.audio_data.specs.Scfsi.{sent};
+ghost use Rattle.audio_data.specs.Scfsi.{sent, three_in};
 ghost use Rattle.bit_string.specs.Bits.{bits_of};
 ghost use Rattle.layout.specs.Layout.{fields_of};
 ghost use Rattle.side_info.specs.SideInfo.{tabled, allocation_field_bits, scfsi_bits, scalefactor_bits, side_info_bits, field_asked, record_asked};
 ghost use Rattle.header.specs.Questions.{number};
 ghost use Rattle.side_info_writer.specs.declared.WriteError.TheVariants.{Header};
 ghost use Rattle.side_info_writer.specs.Written.{error_number, written_in, WrittenIs};
-ghost use Rattle.side_info_writer.specs.OnTheWay.{agree, held, found, Passed, Stopped, granules, three_in, TabledAre, EachTabled, where_sent, written_under};
+ghost use Rattle.side_info_writer.specs.OnTheWay.{found, Passed, Stopped, TabledAre, EachTabled, written_under};
 
 use active_slots::ActiveSlots;
 use audio_data::Scfsi;
@@ -108,35 +108,22 @@ fn write_sections(layout: Layout, info: &SideInfo, writer: &mut BitWriter) -> Re
     Ok(())
 }
 
-// Whether the channels that a field serves have the same steps, from those of its subband in either channel.
-fn agree(field: AllocationField, first: u32, second: u32) -> bool
-    ensures { result ≡ agree field first second }
-{
-    if field.both { second == first } else { true }
-}
-
-// The steps of its first channel.
-fn held(field: AllocationField, first: u32, second: u32) -> u32
-    ensures { result ≡ held field first second }
-{
-    if field.channel == 0 { first } else { second }
-}
-
-// The place of the steps in the field's row.
+// The place of a field's steps in its row, where the channels that it serves have the same.
 fn field_place(
     table: BitAllocTable,
     field: AllocationField,
-    first: u32,
-    second: u32,
+    info: &SideInfo,
 ) -> Result<u32, WriteError>
-    ensures { result ≡ found table field first second }
+    requires { (field.channel < 2) × (field.subband < 32) }
+    ensures { result ≡ found table field info.now }
 {
-    if !agree(field, first, second) {
+    let sb = field.subband;
+    let steps_differ = field.both & (info.steps[32 + sb] != info.steps[sb]);
+    if steps_differ {
         return Err(WriteError::StepsDiffer);
     }
-    let nb_steps = held(field, first, second);
     table
-        .allocation_index(field.subband, nb_steps)
+        .allocation_index(sb, info.steps[32 * field.channel + sb])
         .ok_or(WriteError::StepsNotInRow)
 }
 
@@ -153,21 +140,10 @@ fn write_allocation(
     let table = layout.table;
     for f in 0..layout.fields() {
         let field = layout.field(f);
-        let sb = field.subband;
-        let place = field_place(table, field, info.steps[sb], info.steps[32 + sb])?;
-        writer.put(place, table.nbal(sb));
+        let place = field_place(table, field, info)?;
+        writer.put(place, table.nbal(field.subband));
     }
     Ok(())
-}
-
-// The scalefactor indices of a slot, one for each granule.
-fn granules(info: &SideInfo, slot: usize) -> [u8; 3]
-    requires { slot < 64 }
-    ensures { result ≡ granules info.now.scalefactors slot }
-{
-    let at = 3 * slot;
-    let indices = &info.scalefactors;
-    [indices[at], indices[at + 1], indices[at + 2]]
 }
 
 // Whether Table 3-B.1 has the three indices of a slot.
@@ -182,7 +158,7 @@ fn indices_tabled(active: ActiveSlots, info: &SideInfo) -> bool
     ensures { TabledAre (listed active) info.now result }
 {
     for slot in active.as_slice() {
-        if !slot_tabled(granules(info, usize::from(*slot))) {
+        if !slot_tabled(info.granules(usize::from(*slot))) {
             return false;
         }
     }
@@ -200,18 +176,20 @@ fn write_scfsi(active: ActiveSlots, info: &SideInfo, writer: &mut BitWriter)
     }
 }
 
-// The indices that a scfsi sends, six bits each: the first, the second where there are three, and the third where there is more than one.
+// The indices that a scfsi sends, six bits each.
 fn put_sent(writer: &mut BitWriter, scfsi: Scfsi, indices: [u8; 3])
     requires { (tabled (three_in indices) ≡ true) × (length writer.old + length (flat_map (bits_of 6) (sent scfsi (three_in indices))) ≤ 1392) }
     ensures { writer.new ≡ writer.old ++ flat_map (bits_of 6) (sent scfsi (three_in indices)) }
 {
-    let parts = scfsi.parts_on_wire();
-    writer.put(u32::from(indices[0]), 6);
-    if parts == 3 {
-        writer.put(u32::from(indices[1]), 6);
-    }
-    if 1 < parts {
-        writer.put(u32::from(indices[2]), 6);
+    let [first, second, third] = indices;
+    writer.put(u32::from(first), 6);
+    match scfsi {
+        Scfsi::ThreePerGranule => {
+            writer.put(u32::from(second), 6);
+            writer.put(u32::from(third), 6);
+        }
+        Scfsi::Share01Then2 | Scfsi::Share0Then12 => writer.put(u32::from(third), 6),
+        Scfsi::ShareAll => {}
     }
 }
 
@@ -222,6 +200,6 @@ fn write_scalefactors(active: ActiveSlots, info: &SideInfo, writer: &mut BitWrit
 {
     for slot in active.as_slice() {
         let slot = usize::from(*slot);
-        put_sent(writer, info.scfsi[slot], granules(info, slot));
+        put_sent(writer, info.scfsi[slot], info.granules(slot));
     }
 }

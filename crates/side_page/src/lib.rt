@@ -86,12 +86,11 @@ fn row_line(slot: usize, info: &SideInfo) -> Line
     requires { slot < 64 }
     ensures { text_of result ≡ row_of info.now slot }
 {
-    let index = &info.scalefactors;
     side_rows::row_line(
         slot,
         info.steps[slot],
         info.scfsi[slot].code(),
-        [index[3 * slot], index[3 * slot + 1], index[3 * slot + 2]],
+        info.granules(slot),
     )
 }
 

@@ -10,17 +10,17 @@ returns-then-empty c = none_empty _ _ _ _ c.requires.channel c.requires.subband 
 pub returns-else-empty : goal.returns-else-empty
 returns-else-empty c = none_active _ _ _ _ c.requires.channel c.requires.subband (sym c.in_default.is ∙ c.field_serving.ensures.whole) c.if-empty.false
 
-pub returns-then-differ : goal.returns-then-differ
-returns-then-differ c =
+pub returns-then-steps_differ : goal.returns-then-steps_differ
+returns-then-steps_differ c =
     by_field _ _ _ _ c.requires.channel c.requires.subband _ _ (sym c.in-Some.is ∙ c.field_serving.ensures.whole) c.field-field.ensures.whole _ true _
-    c.agreeing.ensures c.if-differ.true refl
+    refl c.if-steps_differ.true refl
 
-pub returns-then-not-free : goal.returns-then-not-free
-returns-then-not-free c =
+pub returns-then-not-indices_agree : goal.returns-then-not-indices_agree
+returns-then-not-indices_agree c =
     by_field _ _ _ _ c.requires.channel c.requires.subband _ _ (sym c.in-Some.is ∙ c.field_serving.ensures.whole) c.field-field.ensures.whole _ false false
-    c.agreeing.ensures c.if-differ.false c.if-not-free.true
+    c.agreeing.ensures c.if-steps_differ.false c.if-not-indices_agree.true
 
 pub returns : goal.returns
 returns c =
     by_field _ _ _ _ c.requires.channel c.requires.subband _ _ (sym c.in-Some.is ∙ c.field_serving.ensures.whole) c.field-field.ensures.whole _ false true
-    c.agreeing.ensures c.if-differ.false c.if-not-free.false
+    c.agreeing.ensures c.if-steps_differ.false c.if-not-indices_agree.false

@@ -3,11 +3,11 @@ use Prim.Native.Nat.{◌+◌}
 use mathlib.Core.Path.{refl, sym, ap, ◌∙◌}
 use lib.ListN.{length, drop}
 use Rattle.std.proofs.lemmas.Result.{err_from_is_err_and}
+use Rattle.audio_data.specs.Scfsi.{three_in}
 use Rattle.side_info_reading.specs.Taken.{each_taken}
 use Rattle.side_info_reading.specs.Reading.{in_granules}
 use Rattle.side_info_reading.proofs.LaidLaws.{length_laid}
 use Rattle.side_info_reading.proofs.TakenLaws.{each_end}
-use Rattle.side_info_reader.specs.OnTheWay.{three_in}
 use Rattle.side_info_reader.proofs.AnswerLaws.{no_indices}
 use Rattle.side_info_reader.proofs.SectionLaws.{entry_got, entry_refused}
 use Rattle.side_info_reader.proofs.read_scalefactors.Invariants.{three_of}

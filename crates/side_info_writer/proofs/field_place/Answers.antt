@@ -1,10 +1,10 @@
 -- `side_info_writer::field_place` meets its contract: each return has its law of the place.
-use mathlib.Core.Path.{sym, ◌∙◌}
+use mathlib.Core.Path.{refl, ◌∙◌}
 use Rattle.side_info_writer.proofs.PlaceLaws.{unequal, placed}
 use Rattle.side_info_writer.proofs.field_place.Goals as goal
 
-pub returns-then-not-agree : goal.returns-then-not-agree
-returns-then-not-agree c = unequal _ _ _ _ (sym c.agree.ensures ∙ c.if-not-agree.true)
+pub returns-then-steps_differ : goal.returns-then-steps_differ
+returns-then-steps_differ c = unequal _ _ _ c.requires.0 c.if-steps_differ.true
 
 pub returns : goal.returns
-returns c = c.ok_or.ensures.value ∙ placed _ _ _ _ _ (sym c.agree.ensures ∙ c.if-not-agree.false) c.held-nb_steps.ensures _ c.allocation_index.ensures.whole
+returns c = c.ok_or.ensures.value ∙ placed _ _ _ c.requires.0 c.if-steps_differ.false _ c.allocation_index.ensures.whole

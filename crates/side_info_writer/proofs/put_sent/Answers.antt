@@ -1,76 +1,73 @@
--- `side_info_writer::put_sent` meets its contract: the three indices, of which the second and the third may not be sent.
-use mathlib.Core.Path.{◌≡◌, ap, ap₂, ◌∙◌}
+-- `side_info_writer::put_sent` meets its contract: the indices that each scfsi sends.
+use mathlib.Core.Path.{◌≡◌, sym, ap, ap₂, ◌∙◌}
 use mathlib.Core.Bool.{Bool}
-use mathlib.Core.List.{List, ◌++◌}
+use mathlib.Core.List.{List, ◌++◌, flat_map}
 use Prim.Native.Nat.{ℕ}
 use native.Mathlib.Omega.{arith}
-use lib.Dec.{eqb, ltb, lit≤}
-use borrow.Author.Tests.{lt-ltb, le-ltb, eq-eqb, ne_eqb}
-use Rattle.audio_data.specs.Scfsi.{Three}
+use lib.Dec.{lit≤}
+use Rattle.audio_data.specs.declared.Scfsi.{Scfsi}
+use Rattle.audio_data.specs.Scfsi.{parts_of, Three, three_in, sent}
 use Rattle.bit_string.specs.Bits.{bits_of}
-use Rattle.bit_string.proofs.BitLaws.{length_bits}
-use Rattle.side_info_writer.specs.OnTheWay.{three_in, where_sent}
-use Rattle.side_info_writer.proofs.PartLaws.{tabled_each, first_fits, second_fits, third_fits, three_written, sent_long, sent_one, sent_none}
+use Rattle.side_info_writer.proofs.PartLaws.{tabled_each, one_more, room, two_parts, parts_least, three_sent, two_sent, one_sent}
 use Rattle.side_info_writer.proofs.put_sent.Goals as goal
-use Rattle.side_info_writer.proofs.put_sent.Goals.{Then-parts-gt1, then-parts-eq3, else-parts-eq3}
+
+abbrev behind : List Bool → ℕ → List Bool
+behind bs i = bs ++ bits_of 6 i
 
 pub put-requires : goal.put-requires
 put-requires c =
     let t = three_in c.args.indices in
     let small = (tabled_each t c.requires.0).first in
-    let fits = first_fits c.args.scfsi t _ c.parts_on_wire-parts.ensures.whole _ c.requires.1 in
-    (lit≤ tt, omega (arith, small, c.from.ensures), omega (arith, fits, length_bits 6 t.first))
+    let fits = room t _ c.args.scfsi c.requires.1 in
+    (lit≤ tt, omega (arith, small, c.from.ensures), omega (arith, fits, parts_least c.args.scfsi))
 
-pub put-requires-then-parts-eq3 : goal.put-requires-then-parts-eq3
-put-requires-then-parts-eq3 c =
+pub put-requires-in-ThreePerGranule : goal.put-requires-in-ThreePerGranule
+put-requires-in-ThreePerGranule c =
     let t = three_in c.args.indices in
     let small = (tabled_each t c.requires.0).second in
-    let first : c.put.new.self ≡ c.args.writer.now ++ bits_of 6 t.first = c.put.ensures ∙ ap (λ (i : ℕ). c.args.writer.now ++ bits_of 6 i) c.from.ensures in
-    let fits = second_fits c.args.scfsi t _ c.parts_on_wire-parts.ensures.whole _ c.requires.1 in
-    let long = sent_long (eqb c.parts_on_wire-parts.result 3) t.second (eq-eqb _ 3 c.if-parts-eq3.true) in
-    (lit≤ tt, omega (arith, small, c.from-then-parts-eq3.ensures), rw first (omega (arith, fits, long)))
+    let fits = room t _ c.args.scfsi c.requires.1 in
+    let parts : parts_of c.args.scfsi ≡ 3 = ap parts_of c.in-ThreePerGranule.is in
+    let one = one_more _ _ _ c.put.ensures in
+    (lit≤ tt, omega (arith, small, c.from-in-ThreePerGranule.ensures), omega (arith, fits, parts, one))
 
--- where the third is sent: what is written before it
-module _ (c : goal.Then-parts-gt1) where
-  abbrev t : Three
-  t = three_in c.args.indices
-
-  abbrev so_far : List Bool
-  so_far = c.args.writer.now ++ bits_of 6 t.first
-
-  first : c.put.new.self ≡ so_far
-  first = c.put.ensures ∙ ap (λ (i : ℕ). c.args.writer.now ++ bits_of 6 i) c.from.ensures
-
-  second : c.if-parts-eq3.writer ≡ so_far ++ where_sent (eqb c.parts_on_wire-parts.result 3) t.second
-  second = elim c.if-parts-eq3.branch [
-    | then-parts-eq3 w ↦ sent_one _ t.second so_far _ (eq-eqb _ 3 w.if-parts-eq3.true)
-        (w.writer-is ∙ w.put-then-parts-eq3.ensures ∙ ap₂ (λ (bs : List Bool) (i : ℕ). bs ++ bits_of 6 i) first w.from-then-parts-eq3.ensures)
-    | else-parts-eq3 w ↦ sent_none _ t.second so_far _ (ne_eqb _ 3 w.if-parts-eq3.false) (w.writer-is ∙ first)
-  ]
-
-pub put-requires-then-parts-gt1 : goal.put-requires-then-parts-gt1
-put-requires-then-parts-gt1 c =
+pub put-requires-in-ThreePerGranule-2 : goal.put-requires-in-ThreePerGranule-2
+put-requires-in-ThreePerGranule-2 c =
     let t = three_in c.args.indices in
     let small = (tabled_each t c.requires.0).third in
-    let fits = third_fits c.args.scfsi t _ c.parts_on_wire-parts.ensures.whole _ c.requires.1 in
-    let long = sent_long (ltb 1 c.parts_on_wire-parts.result) t.third (lt-ltb 1 _ c.if-parts-gt1.true) in
-    (lit≤ tt, omega (arith, small, c.from-then-parts-gt1.ensures), rw (second (goal.at.put-requires-then-parts-gt1 c).Then-parts-gt1) (omega (arith, fits, long)))
+    let fits = room t _ c.args.scfsi c.requires.1 in
+    let parts : parts_of c.args.scfsi ≡ 3 = ap parts_of c.in-ThreePerGranule.is in
+    let one = one_more _ _ _ c.put.ensures in
+    let two = one_more _ _ _ c.put-in-ThreePerGranule.ensures in
+    (lit≤ tt, omega (arith, small, c.from-in-ThreePerGranule-2.ensures), omega (arith, fits, parts, one, two))
 
-pub returns-then-parts-gt1 : goal.returns-then-parts-gt1
-returns-then-parts-gt1 c =
+pub put-requires-in-Share01Then2 : goal.put-requires-in-Share01Then2
+put-requires-in-Share01Then2 c =
     let t = three_in c.args.indices in
-    let before = second (goal.at.returns-then-parts-gt1 c).Then-parts-gt1 in
-    sent_one _ t.third _ _ (lt-ltb 1 _ c.if-parts-gt1.true) (c.put-then-parts-gt1.ensures ∙ ap₂ (λ (bs : List Bool) (i : ℕ). bs ++ bits_of 6 i) before c.from-then-parts-gt1.ensures)
-    ∙ three_written c.args.scfsi t _ c.parts_on_wire-parts.ensures.whole _ c.requires.1
+    let small = (tabled_each t c.requires.0).third in
+    let fits = room t _ c.args.scfsi c.requires.1 in
+    let parts = two_parts c.args.scfsi c.in-Share01Then2.is in
+    let one = one_more _ _ _ c.put.ensures in
+    (lit≤ tt, omega (arith, small, c.from-in-Share01Then2.ensures), omega (arith, fits, parts, one))
 
--- no more than one is sent
-pub returns-else-parts-gt1 : goal.returns-else-parts-gt1
-returns-else-parts-gt1 c =
+pub returns-in-ThreePerGranule : goal.returns-in-ThreePerGranule
+returns-in-ThreePerGranule c =
     let t = three_in c.args.indices in
-    let first : c.put.new.self ≡ c.args.writer.now ++ bits_of 6 t.first = c.put.ensures ∙ ap (λ (i : ℕ). c.args.writer.now ++ bits_of 6 i) c.from.ensures in
-    let one = c.if-parts-gt1.false in
-    let before : c.if-parts-eq3.writer ≡ (c.args.writer.now ++ bits_of 6 t.first) ++ where_sent (eqb c.parts_on_wire-parts.result 3) t.second = elim c.if-parts-eq3.branch [
-      | then-parts-eq3 w ↦ absurd (let three = w.if-parts-eq3.true in omega arith)
-      | else-parts-eq3 w ↦ sent_none (eqb c.parts_on_wire-parts.result 3) t.second _ _ (ne_eqb _ 3 w.if-parts-eq3.false) (w.writer-is ∙ first)
-    ] in
-    sent_none _ t.third _ _ (le-ltb 1 _ one) before ∙ three_written c.args.scfsi t _ c.parts_on_wire-parts.ensures.whole _ c.requires.1
+    let start = c.args.writer.now in
+    let first = c.put.ensures ∙ ap (behind start) c.from.ensures in
+    let second = c.put-in-ThreePerGranule.ensures ∙ ap₂ behind first c.from-in-ThreePerGranule.ensures in
+    c.put-in-ThreePerGranule-2.ensures ∙ ap₂ behind second c.from-in-ThreePerGranule-2.ensures
+    ∙ three_sent t start ∙ ap (λ (s : Scfsi). start ++ flat_map (bits_of 6) (sent s t)) (sym c.in-ThreePerGranule.is)
+
+pub returns-in-Share01Then2 : goal.returns-in-Share01Then2
+returns-in-Share01Then2 c =
+    let t = three_in c.args.indices in
+    let start = c.args.writer.now in
+    let first = c.put.ensures ∙ ap (behind start) c.from.ensures in
+    c.put-in-Share01Then2.ensures ∙ ap₂ behind first c.from-in-Share01Then2.ensures ∙ two_sent t start c.args.scfsi c.in-Share01Then2.is
+
+pub returns-in-ShareAll : goal.returns-in-ShareAll
+returns-in-ShareAll c =
+    let t = three_in c.args.indices in
+    let start = c.args.writer.now in
+    c.put.ensures ∙ ap (behind start) c.from.ensures
+    ∙ one_sent t start ∙ ap (λ (s : Scfsi). start ++ flat_map (bits_of 6) (sent s t)) (sym c.in-ShareAll.is)

@@ -20,7 +20,7 @@ returns-in_err-place-clause-asked c =
     let here : l.f < length (fields_of a.layout) = rw c.fields-f-end.ensures.whole at c.loop-f-test.true in
     let p = err_from_is_err_and c.from_residual.result c.from_residual.ensures.1 in
     rw (p.1, p.2)
-    (one_stopped a.layout a.info.now l.f _ here c.field-field.ensures.whole c.field-field.ensures.channel l.invariant.0 _ c.in_err-place.ensures)
+    (one_stopped a.layout a.info.now l.f _ here c.field-field.ensures.whole l.invariant.0 _ c.in_err-place.ensures)
 
 pub put-requires : goal.put-requires
 put-requires c =
@@ -32,7 +32,7 @@ put-requires c =
     let fits = part_fits (fields_of a.layout) (allocation_field_bits a.layout r) _ _ l.f l.invariant.1 (own 0 0) x here c.field-field.ensures.whole 188
     (rw c.requires (omega (arith, fields_fit a.layout r))) in (
       omega (arith, c.nbal.ensures.small),
-      rw c.nbal.ensures.whole (place_small a.layout r x c.field-field.ensures.channel _ c.in_ok-place.ensures c.field-field.ensures.carried),
+      rw c.nbal.ensures.whole (place_small a.layout r x _ c.in_ok-place.ensures c.field-field.ensures.carried),
       omega (arith, fits, c.nbal.ensures.whole, field_long a.layout r x),
     )
 
@@ -43,8 +43,8 @@ loop-f-preserved c =
     let r = a.info.now in
     let x = c.field-field.result in
     let here : l.f < length (fields_of a.layout) = rw c.fields-f-end.ensures.whole at c.loop-f-test.true in
-    let bits = ap (λ (w : ℕ). bits_of w c.in_ok-place.place) c.nbal.ensures.whole ∙ place_bits a.layout r x c.field-field.ensures.channel _ c.in_ok-place.ensures in (
-      one_passed a.layout a.info.now l.f x here c.field-field.ensures.whole c.field-field.ensures.channel l.invariant.0 _ c.in_ok-place.ensures,
+    let bits = ap (λ (w : ℕ). bits_of w c.in_ok-place.place) c.nbal.ensures.whole ∙ place_bits a.layout r x _ c.in_ok-place.ensures in (
+      one_passed a.layout a.info.now l.f x here c.field-field.ensures.whole l.invariant.0 _ c.in_ok-place.ensures,
       rw (c.put.ensures, bits) (part_written (fields_of a.layout) (allocation_field_bits a.layout r) _ _ l.f l.invariant.1 (own 0 0) x here c.field-field.ensures.whole),
     )
 
