@@ -1,36 +1,11 @@
--- `header::FrameHeader::frame_size_bytes` meets its contract: each return rewrites the definition with the tests that led to it.
--- The quotient is at most its dividend, so the size fits and has its bound.
-use borrow.Author.Rules.{rules}
-use borrow.Author.Tests.{eq-eqb, ne_eqb}
-use Prim.Native.Nat.{◌*◌}
-use native.Mathlib.Nat.{div-le_self, add-zero}
-use native.Mathlib.Omega.{arith}
-use Rattle.header.specs.Header.{frame_size}
+use Rattle.std.proofs.Common.{rules, ◌≡◌, ℕ, ◌+◌, ◌-◌, ◌*◌, ◌<◌, ◌≤◌, length, ◌/◌, ◌%◌, Bool, true, false, nat_eq, nat_lt, List, [], ◌∷◌, ◌++◌, slice_index_or, slice_set, bit_and, bit_or, Fits, w8, w32, w64, Bor, MutBor}
+use Rattle.header.specs.Header.{ModeNamed, ExtensionNamed, free_format, ChannelsAre, BoundIs, SizeIs}
 use Rattle.header.proofs.FrameHeader.frame_size_bytes.Goals as goal
 
-pub returns-then-sample_rate-eq0 : goal.returns-then-sample_rate-eq0
-unfolding frame_size
-returns-then-sample_rate-eq0 c = record { whole = simp (eq-eqb _ _ c.if-sample_rate-eq0.true); most = search rules }
+-- src/lib.rt:114:21
+pub returns-in_err-slots : goal.returns-in_err-slots
+returns-in_err-slots c = ?
 
-pub overflow_add-result : goal.overflow_add-result
-overflow_add-result c =
-    let h = c.args.self in
-    omega (arith, div-le_self (144 * h.bit_rate) h.sample_rate)
-
-pub returns-then-self : goal.returns-then-self
-unfolding frame_size
-returns-then-self c =
-    let h = c.args.self in
-    record {
-      whole = simp (ne_eqb _ _ c.if-sample_rate-eq0.false, c.if-self.true);
-      most = omega (arith, div-le_self (144 * h.bit_rate) h.sample_rate);
-    }
-
-pub returns-else-self : goal.returns-else-self
-unfolding frame_size
-returns-else-self c =
-    let h = c.args.self in
-    record {
-      whole = simp (ne_eqb _ _ c.if-sample_rate-eq0.false, c.if-self.false, add-zero);
-      most = omega (arith, div-le_self (144 * h.bit_rate) h.sample_rate);
-    }
+-- src/lib.rt:110:5
+pub returns : goal.returns
+returns c = ?
