@@ -6,8 +6,3 @@ use Rattle.allocation_run.proofs.slot_mnr.Goals as goal
 pub returns-then-nb_steps-eq0 : goal.returns-then-nb_steps-eq0
 returns-then-nb_steps-eq0 c = rw (eq-eqb _ _ c.if-nb_steps-eq0.true)
 
-pub returns-in_default : goal.returns-in_default
-returns-in_default c = slot_unknown _ _ _ c.if-nb_steps-eq0.false c.snr_db-snr.ensures c.in_default.is
-
-pub returns : goal.returns
-returns c = slot_found _ _ _ _ c.if-nb_steps-eq0.false c.snr_db-snr.ensures c.in-Some.is
