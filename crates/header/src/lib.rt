@@ -110,8 +110,7 @@ impl FrameHeader {
     pub fn frame_size_bytes(self) -> Option<u64>
         ensures { SizeIs self result }
     {
-        let bits = 144 * u64::from(self.bit_rate);
-        let slots = bits.checked_div(u64::from(self.sample_rate))?;
+        let slots = (144 * u64::from(self.bit_rate)).checked_div(u64::from(self.sample_rate))?;
         Some(slots + u64::from(self.padding))
     }
 

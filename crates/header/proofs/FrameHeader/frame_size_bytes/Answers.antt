@@ -16,7 +16,7 @@ pub returns-in_err-slots : goal.returns-in_err-slots
 unfolding frame_size
 returns-in_err-slots c =
     let none = c.in_err-slots.ensures in
-    let rate = c.from.ensures in
+    let rate = c.from-2.ensures in
     rw c.from_residual.ensures (record { whole = simp (eq-eqb c.args.self.sample_rate 0 (omega (arith, none, rate))); most = search rules })
 
 -- padding adds one byte at most
@@ -30,17 +30,17 @@ padded false = refl
 
 pub overflow_add-result : goal.overflow_add-result
 overflow_add-result c =
-    omega (arith, c.in_ok-slots.ensures.1, div-le_self (144 * c.from-bits.result) c.from.result, c.from-bits.ensures, c.from-2.ensures, one_more c.args.self.padding)
+    omega (arith, c.in_ok-slots.ensures.1, div-le_self (144 * c.from.result) c.from-2.result, c.from.ensures, c.from-3.ensures, one_more c.args.self.padding)
 
 pub returns : goal.returns
 unfolding frame_size
 returns c =
     let h = c.args.self in
     let divided = c.in_ok-slots.ensures in
-    let rate = c.from.ensures in
+    let rate = c.from-2.ensures in
     record {
       whole = rw (ne_eqb h.sample_rate 0 (λ z. omega (arith, z, divided.0, rate)))
           (ap (λ (n : ℕ). record { answer = 0; bytes = n })
-          (ap₂ (λ (m n : ℕ). m + n) (divided.1 ∙ ap₂ (λ (m n : ℕ). 144 * m / n) c.from-bits.ensures rate) (c.from-2.ensures ∙ padded h.padding)));
-      most = omega (arith, c.in_ok-slots.ensures.1, div-le_self (144 * c.from-bits.result) c.from.result, c.from-bits.ensures, c.from-2.ensures, one_more h.padding);
+          (ap₂ (λ (m n : ℕ). m + n) (divided.1 ∙ ap₂ (λ (m n : ℕ). 144 * m / n) c.from.ensures rate) (c.from-3.ensures ∙ padded h.padding)));
+      most = omega (arith, c.in_ok-slots.ensures.1, div-le_self (144 * c.from.result) c.from-2.result, c.from.ensures, c.from-3.ensures, one_more h.padding);
     }
