@@ -1,5 +1,5 @@
 -- What the code computes for one field and one place is what the definitions have there, and the tables that it lays out are the rules.
-use Rattle.std.specs.Prelude.{Option, None, Some}
+use Rattle.std.specs.Prelude.{Option, None, Some, MatchOption}
 use mathlib.Core.Path.{◌≡◌, sym, ap, ap₂, ◌∙◌, subst}
 use mathlib.Core.List.{List, []}
 use Prim.Native.Nat.{ℕ, ◌+◌, ◌-◌, ◌*◌, ◌≤◌, ◌<◌}
@@ -7,7 +7,7 @@ use native.Mathlib.Nat.{not-suc-le-zero}
 use native.Mathlib.Decide.{dec_lt, ℕ_discrete}
 use native.Mathlib.Omega.{arith}
 use lib.Dec.{lit≤}
-use lib.Ieee.{Float, nan, binary64, sub, div, of_bits}
+use lib.Ieee.{Float, nan, binary64, sub}
 use lib.ListN.{length, get_or, set, length-set, get_or-eq_default}
 use lib.Seq.{get_or-set_same, get_or-set_other}
 use borrow.Author.Tests.{ne_eqb}
@@ -27,17 +27,15 @@ use Rattle.allocation_run.specs.Laid.{LaidOut, TopsTo}
 
 -- ---- a slot, and a field
 
-pub slot_found : (steps : ℕ) (smr x : Float) (r : Option Float) → (steps ≡ 0 → ⊥) → r ≡ snr_of steps → r ≡ Some x
-    → sub binary64 x smr ≡ slot_mnr steps smr
-slot_found steps smr x r z e q =
-    rw (ne_eqb steps 0 z) (ap (λ (y : Float). sub binary64 y smr) (ap or_nan (sym q ∙ e)))
-
 -- of steps that Table C.5 lacks nothing is known
-pub slot_unknown : (steps : ℕ) (smr : Float) (r : Option Float) → (steps ≡ 0 → ⊥) → r ≡ snr_of steps → r ≡ None
-    → div binary64 (of_bits binary64 0) (of_bits binary64 0) ≡ slot_mnr steps smr
-unfolding div of_bits sub
-slot_unknown steps smr r z e q =
-    rw (ne_eqb steps 0 z) (ap (λ (y : Float). sub binary64 y smr) (ap or_nan (sym q ∙ e)))
+pub slot_mapped : (steps : ℕ) (smr r : Float) (o : Option Float) → (steps ≡ 0 → ⊥) → o ≡ snr_of steps
+    → (P : Float → Type 0) → MatchOption o (r ≡ nan) P → ((x : Float) → P x → r ≡ sub binary64 x smr) → r ≡ slot_mnr steps smr
+unfolding sub
+slot_mapped steps smr r o z e P m found = rw (ne_eqb steps 0 z) (go o m ∙ ap (λ (o : Option Float). sub binary64 (or_nan o) smr) e)
+  where
+    go : (o : Option Float) → MatchOption o (r ≡ nan) P → r ≡ sub binary64 (or_nan o) smr
+    go None m = m
+    go (Some x) m = found x m
 
 pub some_charge : (steps first bits : ℕ) → (steps ≡ 0 → ⊥) → SampleBitsAre steps bits → ChargeIs steps first (bits + first)
 some_charge steps first bits z b = record { whole = rw (ne_eqb steps 0 z) (ap (λ (n : ℕ). n + first) b.whole); most = let m = b.small in omega arith }

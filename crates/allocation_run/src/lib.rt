@@ -20,11 +20,7 @@ pub fn slot_mnr(nb_steps: u32, smr: f64) -> f64
     if nb_steps == 0 {
         return -smr;
     }
-    let snr = encoder_bit_demand::snr_db(nb_steps);
-    let Some(db) = snr else {
-        return 0.0 / 0.0;
-    };
-    db - smr
+    encoder_bit_demand::snr_db(nb_steps).map_or(f64::NAN, |db| db - smr)
 }
 
 // A field's mask-to-noise ratio with these steps: the smaller of its channels'.

@@ -1,5 +1,5 @@
 -- Each answer of the budget from what the questions found, and the bounds of an accepted one.
-use Rattle.std.specs.Prelude.{Option, None, Some, is_some, Result, Ok, Err}
+use Rattle.std.specs.Prelude.{Option, None, Some, is_some, ok_or, Result, Ok, Err}
 use mathlib.Core.Path.{◌≡◌, refl, sym, ap, ap₂, ◌∙◌, subst}
 use mathlib.Core.Bool.{Bool, true, false, not, cond, true≢false}
 use mathlib.Core.List.{[], ◌∷◌}
@@ -31,6 +31,16 @@ use Rattle.encoder_bit_budget.specs.declared.FixedBitBudget.{FixedBitBudget}
 use Rattle.encoder_bit_budget.specs.declared.BitAllocError.{BitAllocError}
 use Rattle.encoder_bit_budget.specs.declared.BitAllocError.TheVariants.{RateOffLadder, NoBitallocTable, ZeroSampleRate, InsufficientFrameSize}
 use Rattle.encoder_bit_budget.specs.Budget.{plain, bit_rate_asked, table_asked, size_asked, header_asked, error_number, crc_bits, allocation_bits, budget_with, budget_under, layout_in, budget_in, budget_of, accepted_under, Bounded, BudgetIs}
+
+-- ---- an `Option` that was made a `Result`
+
+pub present : {T E : Type 0} (o : Option T) (e : E) (x : T) → Ok x ≡ ok_or o e → o ≡ Some x
+present None e x q = cc
+present (Some y) e x q = cc
+
+pub missing : {T E : Type 0} (o : Option T) (e x : E) → Err x ≡ ok_or o e → (o ≡ None) × (x ≡ e)
+missing None e x q = (refl, cc)
+missing (Some y) e x q = (cc, cc)
 
 -- ---- what the frame's size tells
 

@@ -113,9 +113,7 @@ impl Request {
         if !ladder::on_ladder(header) {
             return Err(BitAllocError::RateOffLadder);
         }
-        let Some(table) = table_selection::select_table(header) else {
-            return Err(BitAllocError::NoBitallocTable);
-        };
+        let table = table_selection::select_table(header).ok_or(BitAllocError::NoBitallocTable)?;
         budget_under(header, table)
     }
 }
@@ -127,9 +125,7 @@ fn budget_under(header: FrameHeader, table: BitAllocTable) -> Result<FixedBitBud
     requires named { table_of header ≡ Some table }
     ensures { BudgetIs (plain header 0) result }
 {
-    let Some(bytes) = header.frame_size_bytes() else {
-        return Err(BitAllocError::ZeroSampleRate);
-    };
+    let bytes = header.frame_size_bytes().ok_or(BitAllocError::ZeroSampleRate)?;
     let layout = Layout::of_header(header, table);
     Ok(budget_with(8 * (bytes as u32), header.protection_bit, layout))
 }

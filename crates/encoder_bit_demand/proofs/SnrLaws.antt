@@ -1,6 +1,6 @@
 -- Table C.5: its rule, by one test that antt computes over the table, and the row of a number of steps.
 use Rattle.std.proofs.lemmas.Option.{none-some, same_Some}
-use Rattle.std.specs.Prelude.{Option, None, Some, option_map, slice_get}
+use Rattle.std.specs.Prelude.{Option, None, Some, MatchOption, option_map, slice_get}
 use mathlib.Core.Path.{◌≡◌, refl, sym, ap, ◌∙◌, subst, subst₂}
 use mathlib.Core.Bool.{Bool, false, not, ◌&&◌, ◌||◌}
 use mathlib.Core.Logic.{⊎_elim}
@@ -20,7 +20,7 @@ use Rattle.tables.proofs.Rule.{first, second, all}
 use Rattle.tables.proofs.Search.{there, there_only, at_place, find_passes, none_passes}
 use Rattle.tables.proofs.Keys.{Each, at_key, no_key}
 use Rattle.ieee_order.proofs.Order.{finite_number, float_lt_le, float_refl}
-use Rattle.encoder_bit_demand.specs.Snr.{SnrRow, table_c5, decibels, row_number, snr_of}
+use Rattle.encoder_bit_demand.specs.Snr.{SnrRow, table_c5, decibels, row_number, snr_of, or_nan, snr}
 
 -- what a found ratio was found in
 of_row : (o : Option SnrRow) (x : Float) → option_map (λ r. r.db) o ≡ Some x → (r : SnrRow) × (o ≡ Some r) × (r.db ≡ x)
@@ -82,6 +82,14 @@ unfolding le
 no_reach nan = refl
 no_reach (inf s) = refl
 no_reach (fin s m e) = refl
+
+pub reached_by : (steps : ℕ) (smr : Float) (b : Bool) (o : Option Float) → o ≡ snr_of steps
+    → (P : Float → Type 0) → MatchOption o (b ≡ false) P → ((x : Float) → P x → b ≡ le smr x) → b ≡ le smr (snr steps)
+reached_by steps smr b o e P m found = go o m ∙ ap (λ (o : Option Float). le smr (or_nan o)) e
+  where
+    go : (o : Option Float) → MatchOption o (b ≡ false) P → b ≡ le smr (or_nan o)
+    go None m = m ∙ sym (no_reach smr)
+    go (Some x) m = found x m
 
 -- the steps from 15 on, in whose digits there are only ones
 abbrev pub long_keys : List ℕ

@@ -143,8 +143,5 @@ fn needed_steps(row: &[u32], smr: f64) -> u32
 fn reaches(steps: u32, smr: f64) -> bool
     ensures { result ≡ le smr (snr steps) }
 {
-    let Some(snr) = snr_db(steps) else {
-        return false;
-    };
-    smr <= snr
+    snr_db(steps).is_some_and(|snr| smr <= snr)
 }

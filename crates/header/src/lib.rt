@@ -110,16 +110,8 @@ impl FrameHeader {
     pub fn frame_size_bytes(self) -> Option<u64>
         ensures { SizeIs self result }
     {
-        let sample_rate = self.sample_rate;
-        if sample_rate == 0 {
-            return None;
-        }
-        let slots = 144 * (self.bit_rate as u64) / (sample_rate as u64);
-        if self.padding {
-            Some(slots + 1)
-        } else {
-            Some(slots)
-        }
+        let slots = (144 * u64::from(self.bit_rate)).checked_div(u64::from(self.sample_rate))?;
+        Some(slots + u64::from(self.padding))
     }
 
     // Whether the bit rate is not named by the header (2.4.2.3, bitrate_index '0000').

@@ -1,7 +1,8 @@
 -- What the code's matches on sample rate and bit rate find is what the headings have.
 use Rattle.std.specs.Prelude.{Option, None, Some, option_map}
+use Rattle.std.specs.Bool.{then_some}
 use mathlib.Core.Path.{◌≡◌, refl, sym, ap, subst}
-use mathlib.Core.Bool.{Bool, true, false, not, ◌&&◌, ◌||◌, and-false}
+use mathlib.Core.Bool.{Bool, true, false, cond, not, ◌&&◌, ◌||◌, and-false}
 use mathlib.Core.List.{List, [], ◌∷◌, ◌++◌}
 use mathlib.Core.Logic.{⊎_elim}
 use Prim.Native.Nat.{ℕ}
@@ -103,6 +104,11 @@ pub of_rate : (h : FrameHeader) → h.lsf ≡ false → free_format h ≡ false 
     → table_of h ≡ table_at h.sample_rate (kbps n)
 unfolding table_of
 of_rate h l f n e = rw (l, f, e)
+
+-- std's `then_some` is the definitions' case
+pub only_where : (b : Bool) (n : ℕ) → then_some b n ≡ cond b (Some n) None
+only_where true n = refl
+only_where false n = refl
 
 -- a rate that is no whole number of kbit/s is in no heading
 pub no_kbps : (frequency : ℕ) → table_at frequency (kbps None) ≡ None

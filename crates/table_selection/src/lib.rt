@@ -19,13 +19,11 @@ pub fn select_table(header: FrameHeader) -> Option<BitAllocTable>
     if header.is_free_format() {
         return free_format_table(sample_rate);
     }
-    let per_channel = bitrate_per_channel_kbps(header);
-    let Some(kbps) = per_channel else {
-        return None;
-    };
+    let kbps = bitrate_per_channel_kbps(header)?;
     table_for(sample_rate, kbps)
 }
 
+// Kept: each frequency with its table, as the headings of Tables 3-B.2a and 3-B.2b name free format; a list of three would have to be searched.
 fn free_format_table(sample_rate: u32) -> Option<BitAllocTable>
     ensures { result ≡ table_at sample_rate free }
 {
@@ -70,9 +68,5 @@ pub fn bitrate_per_channel_kbps(header: FrameHeader) -> Option<u32>
     if header.channels() == 1 {
         return Some(total_kbps);
     }
-    if total_kbps % 2 == 0 {
-        Some(total_kbps / 2)
-    } else {
-        None
-    }
+    (total_kbps % 2 == 0).then_some(total_kbps / 2)
 }

@@ -12,14 +12,12 @@ returns-then-is_free_format c =
     c.free_format_table.ensures
     ∙ sym (of_free _ c.if-header.false (sym c.is_free_format.ensures ∙ c.if-is_free_format.true))
 
-pub returns-in_default : goal.returns-in_default
-returns-in_default c =
-    let missing = sym c.bitrate_per_channel_kbps-per_channel.ensures ∙ c.in_default.is in
-    sym
-    (of_rate _ c.if-header.false (sym c.is_free_format.ensures ∙ c.if-is_free_format.false) None missing ∙ no_kbps _)
+pub returns-in_err-kbps : goal.returns-in_err-kbps
+returns-in_err-kbps c =
+    let rated = of_rate _ c.if-header.false (sym c.is_free_format.ensures ∙ c.if-is_free_format.false) None (sym c.in_err-kbps.ensures) in
+    rw c.from_residual.ensures (sym (rated ∙ no_kbps _))
 
 pub returns : goal.returns
 returns c =
-    let there = sym c.bitrate_per_channel_kbps-per_channel.ensures ∙ c.in-Some.is in
     c.table_for.ensures
-    ∙ sym (of_rate _ c.if-header.false (sym c.is_free_format.ensures ∙ c.if-is_free_format.false) _ there)
+    ∙ sym (of_rate _ c.if-header.false (sym c.is_free_format.ensures ∙ c.if-is_free_format.false) _ (sym c.in_ok-kbps.ensures))
