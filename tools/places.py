@@ -3,8 +3,8 @@
 
 For each point a rule over the text, so that two runs list the same; what a rule lists is a candidate, and docs/DESIGN-PASS.md says
 which of them are places. With no COMMIT the files of the work tree are read. `--list` prints the candidates, else their numbers.
-A candidate counts as kept where a line `// Kept: ` with the reason stands beside it: above the item or in it, or, for parameters that
-travel together, in the comment at the file's head. `--open` lists those without such a line.
+A candidate counts as kept where a line `// Kept: ` with the reason stands beside it: above the item or in it, or, for parameters and
+arrays that belong together, in the comment at the file's head. `--open` lists those without such a line.
 """
 import collections
 import re
@@ -259,13 +259,13 @@ def reasons(text):
         elif said.startswith("impl"):
             block, above = above, []
         elif item:
-            inside = item.group(1)
+            inside, ends = item.group(1), line[: len(line) - len(line.lstrip())] + "}"
             below += [r for r in above if r.startswith("here and below")]
             found[inside] += above + block + below
             above = []
         elif said and not said.startswith(("//", "#[")):
             above = []
-        if line in ("}", "    }"):
+        if inside and line == ends:
             inside = ""
         if line == "}":
             block = []
@@ -282,7 +282,7 @@ def main():
         why = {}
         for place, items in places.items():
             beside = [r for file, name in items for r in kept[file][name]]
-            if title.startswith("5"):
+            if title[0] in "56":
                 beside += [r for file, name in items for r in kept[file][""]]
             why[place] = list(dict.fromkeys(beside))
         without = [p for p in places if not why[p]]

@@ -13,7 +13,7 @@ pub fn abs(x: f64) -> f64
 }
 
 // The larger of two, as `f64::max`: a NaN beside a number yields the number, and of two that compare equal the first is taken.
-// Kept: of two that compare equal std's `max` and `min` promise only one of them, so that which zero comes out could not be proved.
+// Kept: here and below: of two that compare equal std's `max` and `min` promise only one of them, so that which zero comes out could not be proved.
 pub fn max(a: f64, b: f64) -> f64
     ensures { result ≡ max_of a b }
 {

@@ -64,6 +64,7 @@ fn too_small(line: Line, cb: u32, fixed: u32, banc: u32) -> Line
         .text(b" ancillary: ")
 }
 
+// Kept: as `off_ladder` it says one text or the other, by a flag of the header; what they share is the `if`.
 fn advice(line: Line, free: bool) -> Line
     ensures { text_of result ≡ cut (text_of line ++ advice_text free) }
 {

@@ -11,6 +11,7 @@ use hex_text::HexError;
 use text_line::{Line, only};
 
 // The line of a number, counted from 0. The words are each ended by a byte 0.
+// Kept: words and input by themselves, as `Answer::line` of word_io takes them.
 pub fn side_line(words: &[u8], input: &[u8], n: usize) -> Option<Line>
     ensures { LineAt (side_of words.now input.now) n result }
 {
