@@ -1,6 +1,6 @@
 -- Laws of a record's slices, and of the record with its header.
 use Rattle.std.specs.Prelude.{Option, None, Some}
-use Rattle.std.proofs.Common.{◌≡◌, ℕ, Bool, true, false, cond, ◌||◌, List, map, take, refl, sym, ap, ◌∙◌, Result, Ok, Err, le-ltb}
+use Rattle.std.proofs.Common.{◌≡◌, ℕ, Bool, true, false, cond, ◌||◌, List, map, refl, sym, ap, ◌∙◌, Result, Ok, Err, le-ltb}
 use Rattle.std.specs.Array.{IsFirstChunk}
 use Rattle.header.specs.declared.FrameHeader.{FrameHeader}
 use Rattle.side_info.specs.declared.SideInfo.{SideInfo}

@@ -1,5 +1,5 @@
 -- `c_side_info::record::RecordSlices::frame` meets its contract: the header's numbers mean nothing, or the codes do, or both mean something.
-use Rattle.std.proofs.Common.{◌≡◌, true, false, rules, ap, ◌∙◌, sym, Ok, Err}
+use Rattle.std.proofs.Common.{◌≡◌, true, false, rules, ap, ◌∙◌, Ok, Err}
 use Rattle.std.specs.Array.{IsFirstChunk}
 use Rattle.c_side_info.specs.Arguments.{are_codes}
 use Rattle.c_answers.specs.Refusals.{meaning_in}
