@@ -9,11 +9,7 @@ use side_info_writer::{SIDE_INFO_BYTES, WrittenSideInfo};
 
 // A writer's answer, or the number of its refusal, into its slices; beside a refusal 174 zeros and no bits.
 #[tactic(auto, unfolding(bit_string::specs::Bits::packed))]
-pub fn put_written(
-    written: Result<WrittenSideInfo, u32>,
-    bytes: &mut [u8],
-    out: &mut [u32],
-) -> u32
+pub fn put_written(written: Result<WrittenSideInfo, u32>, bytes: &mut [u8], out: &mut [u32]) -> u32
     requires { (174 ≤ length bytes.old) × (1 ≤ length out.old) }
     ensures bytes_written { Answers (bytes_in (written_by written)) bytes.old result bytes.new }
     ensures out_written { Answers (bits_in (written_by written)) out.old result out.new }

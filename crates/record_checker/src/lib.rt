@@ -71,7 +71,9 @@ impl RecordError {
         match self {
             RecordError::Header(_) => [0, 0],
             RecordError::Slot {
-                subband, channel, ..
+                subband,
+                channel,
+                ..
             } => [subband, channel],
         }
     }

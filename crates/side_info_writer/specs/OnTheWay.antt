@@ -1,7 +1,7 @@
 -- What the functions find on the way to the bytes.
 -- For the contracts of private functions alone: nothing that a caller has to believe stands here.
-use Rattle.std.specs.Prelude.{ℕ, ◌+◌, ◌*◌, ◌<◌, ◌≡◌, Bool, true, false, cond, eqb, length, get_or, Result, Err, Option, ok_or}
-use mathlib.Core.List.{List, [], ◌∷◌, ◌++◌, map}
+use Rattle.std.specs.Prelude.{ℕ, ◌<◌, ◌≡◌, Bool, true, false, cond, length, get_or, Result, Err, Option, ok_or}
+use mathlib.Core.List.{List, ◌++◌, map}
 use Rattle.header.specs.Questions.{Question, number}
 use Rattle.bitalloc.specs.declared.BitAllocTable.{BitAllocTable}
 use Rattle.bitalloc.specs.Tables.{index_of}

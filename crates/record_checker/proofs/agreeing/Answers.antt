@@ -1,5 +1,5 @@
 -- `record_checker::agreeing` meets its contract, by the scfsi.
-use mathlib.Core.Path.{sym, ap, ap₂, ◌∙◌}
+use mathlib.Core.Path.{sym, ap₂}
 use Rattle.audio_data.specs.Scfsi.{agreeing}
 use Rattle.record_checker.proofs.agreeing.Goals as goal
 

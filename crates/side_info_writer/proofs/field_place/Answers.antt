@@ -1,5 +1,5 @@
 -- `side_info_writer::field_place` meets its contract: each return has its law of the place.
-use mathlib.Core.Path.{refl, ◌∙◌}
+use mathlib.Core.Path.{◌∙◌}
 use Rattle.side_info_writer.proofs.PlaceLaws.{unequal, placed}
 use Rattle.side_info_writer.proofs.field_place.Goals as goal
 

@@ -6,7 +6,7 @@ use Prim.Native.Nat.{ℕ}
 use native.Mathlib.Omega.{arith}
 use lib.Dec.{lit≤}
 use Rattle.audio_data.specs.declared.Scfsi.{Scfsi}
-use Rattle.audio_data.specs.Scfsi.{parts_of, Three, three_in, sent}
+use Rattle.audio_data.specs.Scfsi.{parts_of, three_in, sent}
 use Rattle.bit_string.specs.Bits.{bits_of}
 use Rattle.side_info_writer.proofs.PartLaws.{tabled_each, one_more, room, two_parts, parts_least, three_sent, two_sent, one_sent}
 use Rattle.side_info_writer.proofs.put_sent.Goals as goal

@@ -1,5 +1,5 @@
 -- `side_info_writer::write_scalefactors` meets its contract. The loop's invariant: what is written and what the slots to come send make the whole.
-use mathlib.Core.Path.{◌≡◌, ap, ◌∙◌}
+use mathlib.Core.Path.{ap, ◌∙◌}
 use mathlib.Core.List.{flat_map, ◌++◌}
 use Prim.Native.Nat.{ℕ}
 use native.Mathlib.Omega.{arith}
@@ -17,7 +17,7 @@ put_sent-requires c =
     let slot = c.from-slot.ensures in
     let each : EachTabled c.as_slice-slot-items.result.now r = rw c.as_slice-slot-items.ensures c.requires.0 in
     let fits = part_fits c.as_slice-slot-items.result.now (scalefactor_bits r) _ _ _ c.loop-slot.invariant 0 _ c.loop-slot-test.true slot 1392
-        (rw c.as_slice-slot-items.ensures c.requires.1) in
+    (rw c.as_slice-slot-items.ensures c.requires.1) in
     let long = ap (λ (t : Three). length (flat_map (bits_of 6) (sent (scfsi_in r c.from-slot.result) t))) c.granules.ensures in (
       ap tabled c.granules.ensures ∙ ap (λ (s : ℕ). (scalefactor_asked r s).yes) slot ∙ each.yes _ c.loop-slot-test.true,
       omega (arith, fits, long),
