@@ -90,6 +90,7 @@ impl BitAllocTable {
 
     // The place in the subband's row at which the steps stand. It is one of three, which the steps' binary digits tell; since the row rises, two
     // comparisons tell which.
+    // Kept: the writer asks this of each field; walking the row took a quarter of its time, halving no less, and counting over the places longer still.
     pub fn allocation_index(self, sb: usize, nb_steps: u32) -> Option<u32>
         ensures { AllocationIndexIs self sb nb_steps result }
     {
@@ -138,7 +139,7 @@ impl BitAllocTable {
     }
 
     // The first subband behind each of the four ranges, a byte each, the first in the lowest.
-    // Kept: `range` compares all four at once, for which they have to stand in one word; an array of four was no faster (see there).
+    // Kept: `range` compares all four at once, for which they have to stand in one word.
     fn ends(self) -> u32
         ensures { result ≡ word_of (ends_of self) }
     {
@@ -174,6 +175,7 @@ impl BitAllocTable {
 }
 
 // The first of the three places of a row of so many at one of which the steps stand, if anywhere.
+// Kept: by arithmetic, since `allocation_index` is to make no search (see there).
 fn first_of_three(places: usize, nb_steps: u32) -> usize
     requires { 4 ≤ places }
     ensures { FirstOfThreeIs places nb_steps result }

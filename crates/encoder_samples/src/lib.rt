@@ -45,6 +45,7 @@ fn code_to(last: u32, class: QuantClass, s_double_prime: f64) -> u32
 }
 
 // The whole number nearest to `value`, counted from -`half` as 0, and at most `last`.
+// Kept: std's `clamp` would need a signed number: here what is below 0 is taken off `half`, stops at 0, and its half is rounded away from zero.
 fn clamp(last: u32, half: u32, value: f64) -> u32
     ensures { result ≡ clamped last half value }
 {
@@ -58,6 +59,7 @@ fn clamp(last: u32, half: u32, value: f64) -> u32
 }
 
 // The whole number nearest to `x`, halves up, at most 2^32; 0 where `x` is negative or NaN.
+// Kept: std's `round` answers an f64, so that the tests of 0, NaN and 2^32 and the cast would stay; a doubling, which is exact, gives the whole number at once.
 pub fn nearest_whole(x: f64) -> u64
     ensures { NearestIs x result }
 {
@@ -75,7 +77,7 @@ pub fn nearest_whole(x: f64) -> u64
 }
 
 // Three samples' codewords: how many, the bits of each, and the codewords, with 0 in the places that are not used.
-// Kept: C takes three words whatever the count, and without a heap there is no list of one or three.
+// Kept: one or three codewords of `width` bits each, in three places, as the Rust's `Triplet` has them; without a heap there is no list of one or three.
 #[derive(Clone, Copy)]
 pub struct Triplet {
     pub count: u32,

@@ -157,7 +157,7 @@ fn row_of(class1: DifferenceClass, class2: DifferenceClass) -> [u8; 7]
 }
 
 // The index that the table names so.
-// Kept: 1 to 4 are the names that the rows above use, so this match reads them as they stand; an enum of the four would need the same match besides.
+// Kept: the definition of Table C.4 names the four by 1 to 4 too, and the rows are compared with it as bytes; an enum would need these four cases and a translation there.
 fn named(name: u8, scalefactors: [u8; 3]) -> u8
     ensures { result ≡ named (get_or scalefactors 0 0) (get_or scalefactors 1 0) (get_or scalefactors 2 0) name }
 {

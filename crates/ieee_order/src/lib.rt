@@ -5,7 +5,7 @@ ghost use Rattle.std.specs.Prelude.{◌≡◌};
 ghost use Rattle.ieee_order.specs.Order.{abs_of, max_of, min_of};
 
 // The magnitude. Both zeros give +0.0.
-// Kept: std's `abs`, under the definition that the encoder's contracts speak of.
+// Kept: std's `abs`; `encoder_scalefactors` and `text_line` call it for its contract, which is `abs_of`, the definition of their own clauses.
 pub fn abs(x: f64) -> f64
     ensures { result ≡ abs_of x }
 {
@@ -21,6 +21,7 @@ pub fn max(a: f64, b: f64) -> f64
 }
 
 // The smaller of two, as `f64::min`; of two that compare equal the first.
+// Kept: as for `max`: of two zeros std's `min` does not promise the first, which this contract does.
 pub fn min(a: f64, b: f64) -> f64
     ensures { result ≡ min_of a b }
 {

