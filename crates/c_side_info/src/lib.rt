@@ -37,6 +37,7 @@ pub fn write_side_info(
         bits_written)
         out.old (number_in result) out.new }
 {
+    // Kept: the lengths of `bytes` and `out` are one test, as in the clauses; `first_chunk_mut` would lend both before the header is read, for `put_written` to write.
     let frame = record.frame(given, (bytes.len() < 174) | (out.len() < 1))?;
     let written = side_info_writer::write_side_info(frame.header, &frame.side);
     let written = written.map_err(|error| error.number());
