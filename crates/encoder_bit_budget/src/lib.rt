@@ -125,7 +125,9 @@ fn budget_under(header: FrameHeader, table: BitAllocTable) -> Result<FixedBitBud
     requires named { table_of header ≡ Some table }
     ensures { BudgetIs (plain header 0) result }
 {
-    let bytes = header.frame_size_bytes().ok_or(BitAllocError::ZeroSampleRate)?;
+    let bytes = header
+        .frame_size_bytes()
+        .ok_or(BitAllocError::ZeroSampleRate)?;
     let layout = Layout::of_header(header, table);
     Ok(budget_with(8 * (bytes as u32), header.protection_bit, layout))
 }
