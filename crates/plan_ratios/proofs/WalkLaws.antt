@@ -1,115 +1,184 @@
--- The walk over a text: what holds before each token, and what follows where it ends.
-use Rattle.std.proofs.Common.{◌≡◌, ℕ, ◌+◌, ◌-◌, ◌<◌, ◌≤◌, List, [], ◌∷◌, length, take, drop, set, ap, ◌∙◌, subst, arith, drop_of_length-le}
+-- The walk over a text: tokens that are taken one behind the other, and what follows where all are.
+use Rattle.std.proofs.Common.{◌≡◌, ◌==◌, true, false, true≢false, map, eqb-true, ℕ, suc, ◌+◌, ◌-◌, ◌<◌, ◌≤◌, List, [], ◌∷◌, ◌++◌, length, take, drop, set, sym, refl, ap, ◌∙◌, add-one, arith, length-set, take-append-drop, length-take-le, drop-drop, take-suc-set, drop-set-lt}
 use Rattle.std.specs.Prelude.{Some, None, Ok, Err}
+use Rattle.std.proofs.lemmas.List.{append_assoc, append-nil, map-append}
 use lib.Ieee.{Float}
-use Rattle.plan_text.specs.Bytes.{reach, pieces}
-use Rattle.plan_text.proofs.ByteLaws.{found_most}
-use Rattle.plan_ratios.specs.declared.Place.{Place}
-use Rattle.plan_ratios.specs.declared.RatiosError.TheVariants.{NotARatio, TooMany, TooFew}
-use Rattle.plan_ratios.specs.Ratio.{ratio_of}
+use Rattle.plan_text.specs.Bytes.{pieces}
 use Rattle.plan_text.specs.Lines.{ends_line}
-use Rattle.plan_ratios.specs.Tokens.{on_line, tokens_from}
+use Rattle.plan_ratios.specs.declared.RatiosError.{RatiosError}
+use Rattle.plan_ratios.specs.declared.RatiosError.TheVariants.{NotARatio, TooMany, TooFew}
+use Rattle.plan_ratios.specs.declared.Slots.{Slots}
+use Rattle.plan_ratios.specs.Ratio.{ratio_of}
+use Rattle.plan_ratios.specs.Tokens.{filled, line_tokens, Token, on_line, numbered, tokens_from}
 use Rattle.plan_ratios.specs.Ratios.{wanted, empty, accepted, answered, ratios_of}
-use Rattle.plan_ratios.specs.Walk.{Reached, Skipped}
-use Rattle.plan_text.specs.Lines.{is_end}
-use Rattle.plan_ratios.proofs.TokenLaws.{token_at, token_less}
-use Rattle.plan_ratios.proofs.AnswerLaws.{too_few, enough, too_many, unread, read, Filled, taken, whole, more, filled_more}
+use Rattle.plan_ratios.specs.Walk.{Filled, got, Passed, Refused}
+use Rattle.plan_ratios.proofs.AnswerLaws.{too_few, enough, too_many, unread, read}
+use Rattle.plan_ratios.proofs.TokenLaws.{filled_append, numbered_append}
 
--- the number of lines
-abbrev lines : List ℕ → ℕ
-lines text = length (pieces ends_line text)
+-- ---- the slots
 
--- `count` ratios are read, and the tokens from `at` on are still to come
-pub record Walked (text : List ℕ) (given slots : ℕ) (ratios : List Float) (count : ℕ) (place : Place) : Type 0 where
-  pub room : count ≤ slots
-  pub filled : Filled ratios count
-  pub reached : Reached text place.at place.feeds
-  pub left : ratios_of given text ≡ answered slots (lines text) (take count ratios) (tokens_from (place.feeds + 1) (drop place.at text))
+emptied : (n : ℕ) → drop 1 (empty (suc n)) ≡ empty n
+unfolding empty
+emptied n = refl
 
-pub at_first : (text : List ℕ) (given slots : ℕ) (ratios : List Float) (r : Place) → slots ≡ wanted given → ratios ≡ empty 64
-    → Skipped text (record { at = 0; feeds = 0 }) r
-    → Walked text given slots ratios 0 r
-unfolding ratios_of empty
-at_first text given slots ratios r e f k = record {
-  room = omega arith;
-  filled = record { long = rw f; most = omega arith; rest = f };
-  reached = k.reached;
-  left = rw e (ap (answered (wanted given) (lines text) []) k.kept);
-}
+module _ (s : Slots) (f : Filled s) where
+  pub as_many : length (got s) ≡ s.count
+  as_many = length-take-le s.count s.ratios (omega (arith, f.long, f.most, f.room))
 
-module _ (text : List ℕ) (given slots : ℕ) (fits : slots ≤ 64) (ratios : List Float) (count : ℕ) (place : Place)
-    (w : Walked text given slots ratios count place) where
-  abbrev at : ℕ
-  at = place.at
+  whole : got s ++ empty (64 - length (got s)) ≡ s.ratios
+  whole = rw (as_many, ← f.rest) (take-append-drop s.count s.ratios)
 
-  abbrev feeds : ℕ
-  feeds = place.feeds
+  -- one token
+  module _ (t : Token) where
+    pub full_refused : s.count ≡ s.wanted → Refused (t ∷ []) s (TooMany t.line)
+    full_refused e = record { same = λ last us. too_many s.wanted last (got s) t us (omega (arith, as_many)) }
 
-  got : List Float
-  got = take count ratios
+    module _ (e : s.count ≡ s.wanted → ⊥) where
+      less : length (got s) < s.wanted
+      less = omega (arith, as_many, f.room, e)
 
-  as_many : length got ≡ count
-  unfolding got
-  as_many = taken ratios count w.filled
+      pub unread_refused : ratio_of t.text ≡ None → Refused (t ∷ []) s (NotARatio t.line)
+      unread_refused q = record { same = λ last us. unread s.wanted last (got s) t us less q }
 
-  -- at a token
-  module _ (e : ℕ) (h : at < length text) (f : e ≡ at + reach is_end (drop at text)) where
-    token : List ℕ
-    token = take (e - at) (drop at text)
+      pub below : s.count < 64
+      below = omega (arith, f.most, f.room, e)
 
-    met : ratios_of given text ≡ answered slots (lines text) got (on_line (feeds + 1) token ∷ tokens_from (feeds + 1) (drop e text))
-    unfolding got token
-    met = w.left ∙ ap (answered slots (lines text) (take count ratios)) (token_at text at h (feeds + 1) e (w.reached.starts h) f)
-
-    pub forward : at < e
-    forward = token_less text at h e (w.reached.starts h) f
-
-    pub within : e ≤ length text
-    within = found_most is_end text at e w.reached.within f
-
-    pub at_many : count ≡ slots → ratios_of given text ≡ Err (TooMany (feeds + 1))
-    at_many z =
-        met
-        ∙ too_many slots (lines text) got (on_line (feeds + 1) token) (tokens_from (feeds + 1) (drop e text)) (omega (arith, as_many))
-
-    module _ (z : count ≡ slots → ⊥) where
-      less : length got < slots
-      less = omega (arith, as_many, w.room, z)
-
-      pub at_unread : ratio_of (take (e - at) (drop at text)) ≡ None → ratios_of given text ≡ Err (NotARatio (feeds + 1))
-      unfolding token
-      at_unread q =
-          met
-          ∙ unread slots (lines text) got (on_line (feeds + 1) token) (tokens_from (feeds + 1) (drop e text)) less q
-
-      pub below : count < slots
-      below = subst (λ (n : ℕ). n < slots) as_many less
-
-      pub at_read : (x : Float) (r : Place) → ratio_of (take (e - at) (drop at text)) ≡ Some x → Skipped text (record { at = e; feeds = feeds }) r
-          → Walked text given slots (set ratios count x) (count + 1) r
-      unfolding got token
-      at_read x r q k =
-          let b = below in
-          let l : count < 64 = omega arith in
+      pub read_passed : (x : Float) (r : Slots) → ratio_of t.text ≡ Some x → r.ratios ≡ set s.ratios s.count x → r.count ≡ s.count + 1 → r.wanted ≡ s.wanted
+          → Passed (t ∷ []) s r
+      read_passed x r q a b c =
+          let k : 64 - s.count ≡ suc (64 - (s.count + 1)) = omega (arith, below) in
+          let more : take (s.count + 1) (set s.ratios s.count x) ≡ got s ++ x ∷ [] =
+          rw (add-one s.count) (take-suc-set s.ratios s.count x (omega (arith, f.long, below))) in
           record {
-            room = omega arith;
-            filled = filled_more ratios count w.filled x l;
-            reached = k.reached;
-            left =
-                met
-                ∙ read slots (lines text) got (on_line (feeds + 1) token) (tokens_from (feeds + 1) (drop e text)) x less q
-                ∙ rw (more ratios count w.filled x l, k.kept);
+            filled = record {
+              long = ap length a ∙ length-set s.ratios s.count x ∙ f.long;
+              room = omega (arith, b, c, f.room, e);
+              most = omega (arith, c, f.most);
+              rest = rw (a, b)
+                  (drop-set-lt (s.count + 1) s.ratios s.count x (omega arith)
+                  ∙ sym (drop-drop 1 s.count s.ratios)
+                  ∙ ap (drop 1) (f.rest ∙ ap empty k)
+                  ∙ emptied (64 - (s.count + 1)));
+            };
+            wanted = c;
+            same = λ last us. read s.wanted last (got s) t us x less q ∙ rw (a, b, c, more) refl;
           }
 
-  -- at the end of the text
-  module _ (h : length text ≤ at) where
-    over : ratios_of given text ≡ answered slots (lines text) got []
-    unfolding got tokens_from
-    over = w.left ∙ rw (drop_of_length-le text h)
+-- ---- one behind the other
 
-    pub at_few : count < slots → ratios_of given text ≡ Err (TooFew (lines text) count)
-    at_few l = over ∙ too_few slots (lines text) got (omega (arith, as_many)) ∙ ap (λ (n : ℕ). Err (TooFew (lines text) n)) as_many
+pub none_passed : (s : Slots) → Filled s → Passed [] s s
+none_passed s f = record { filled = f; wanted = refl; same = λ last us. refl }
 
-    pub at_enough : slots ≤ count → ratios_of given text ≡ Ok ratios
-    unfolding got accepted
-    at_enough l = over ∙ enough slots (lines text) got (omega (arith, as_many)) ∙ rw (whole ratios count w.filled)
+module _ (ts us : List Token) (a b : Slots) (p : Passed ts a b) where
+  pub then_passed : (c : Slots) → Passed us b c → Passed (ts ++ us) a c
+  then_passed c q = record {
+    filled = q.filled;
+    wanted = q.wanted ∙ p.wanted;
+    same = λ last vs. ap (answered a.wanted last (got a)) (append_assoc ts us vs) ∙ p.same last (us ++ vs) ∙ q.same last vs;
+  }
+
+  pub then_refused : (e : RatiosError) → Refused us b e → Refused (ts ++ us) a e
+  then_refused e q = record {
+    same = λ last vs. ap (answered a.wanted last (got a)) (append_assoc ts us vs) ∙ p.same last (us ++ vs) ∙ q.same last vs;
+  }
+
+pub front_refused : (ts us : List Token) (a : Slots) (e : RatiosError) → Refused ts a e → Refused (ts ++ us) a e
+front_refused ts us a e q = record {
+  same = λ last vs. ap (answered a.wanted last (got a)) (append_assoc ts us vs) ∙ q.same last (us ++ vs);
+}
+
+-- ---- a whole text
+
+pub none_filled : (slots : ℕ) (a : Slots) → a.ratios ≡ empty 64 → a.count ≡ 0 → a.wanted ≡ wanted slots → Filled a
+unfolding empty
+none_filled slots a r n w = record { long = rw r refl; room = omega (arith, n); most = omega (arith, w); rest = rw (r, n) refl }
+
+module _ (text : List ℕ) (slots : ℕ) where
+  abbrev lines : ℕ
+  lines = length (pieces ends_line text)
+
+  module _ (a : Slots) (ts : List Token) (all : ts ≡ tokens_from 1 text) (n : a.count ≡ 0) (w : a.wanted ≡ wanted slots) where
+    begun : got a ≡ []
+    begun = rw n refl
+
+    from_first : ratios_of slots text ≡ answered a.wanted lines (got a) (ts ++ [])
+    unfolding ratios_of
+    from_first = rw (w, begun, all, append-nil (tokens_from 1 text)) refl
+
+    pub text_refused : (e : RatiosError) → Refused ts a e → ratios_of slots text ≡ Err e
+    text_refused e q = from_first ∙ q.same lines []
+
+    module _ (b : Slots) (p : Passed ts a b) where
+      over : ratios_of slots text ≡ answered b.wanted lines (got b) []
+      over = from_first ∙ p.same lines []
+
+      pub text_few : b.count < b.wanted → ratios_of slots text ≡ Err (TooFew lines b.count)
+      text_few l =
+          over ∙ too_few b.wanted lines (got b) (omega (arith, as_many b p.filled))
+          ∙ ap (λ (k : ℕ). Err (TooFew lines k)) (as_many b p.filled)
+
+      pub text_enough : b.wanted ≤ b.count → ratios_of slots text ≡ Ok b.ratios
+      unfolding accepted
+      text_enough l = over ∙ enough b.wanted lines (got b) (omega (arith, as_many b p.filled)) ∙ ap (λ (xs : List Float). Ok xs) (whole b p.filled)
+
+-- ---- a line, by its parts
+
+module _ (n : ℕ) where
+  -- the tokens of parts
+  abbrev pub parts : List (List ℕ) → List Token
+  parts ws = map (on_line n) (filled ws)
+
+  parts_append : (ws us : List (List ℕ)) → parts (ws ++ us) ≡ parts ws ++ parts us
+  parts_append ws us = ap (map (on_line n)) (filled_append ws us) ∙ map-append (on_line n) (filled ws) (filled us)
+
+  module _ (w : List ℕ) where
+    one_part : (length w == 0) ≡ false → parts (w ∷ []) ≡ on_line n w ∷ []
+    one_part = go w
+      where
+        go : (w : List ℕ) → (length w == 0) ≡ false → parts (w ∷ []) ≡ on_line n w ∷ []
+        go [] e = absurd (true≢false e)
+        go (b ∷ bs) e = refl
+
+    some : (n : ℕ) → (suc n == 0) ≡ true → ⊥
+    some n e = let z = eqb-true (suc n) 0 e in omega arith
+
+    no_part : (length w == 0) ≡ true → parts (w ∷ []) ≡ []
+    no_part = go w
+      where
+        go : (w : List ℕ) → (length w == 0) ≡ true → parts (w ∷ []) ≡ []
+        go [] e = refl
+        go (b ∷ bs) e = absurd (some (length bs) e)
+
+    module _ (vs ws : List (List ℕ)) (more : vs ≡ ws ++ w ∷ []) (a b : Slots) (p : Passed (parts ws) a b) where
+      pub part_skipped : (length w == 0) ≡ true → Passed (parts vs) a b
+      part_skipped e = rw (more, parts_append ws (w ∷ []), no_part e, append-nil (parts ws)) p
+
+      pub part_passed : (c : Slots) → (length w == 0) ≡ false → Passed (on_line n w ∷ []) b c → Passed (parts vs) a c
+      part_passed c e q = rw (more, parts_append ws (w ∷ []), one_part e) (then_passed (parts ws) (on_line n w ∷ []) a b p c q)
+
+    module _ (all ws rest : List (List ℕ)) (split : all ≡ (ws ++ w ∷ []) ++ rest) (a b : Slots) (p : Passed (parts ws) a b) where
+      pub part_refused : (e : RatiosError) → (length w == 0) ≡ false → Refused (on_line n w ∷ []) b e → Refused (parts all) a e
+      part_refused e z q =
+          rw (split, parts_append (ws ++ w ∷ []) rest, parts_append ws (w ∷ []), one_part z)
+          (front_refused (parts ws ++ on_line n w ∷ []) (parts rest) a e (then_refused (parts ws) (on_line n w ∷ []) a b p e q))
+
+-- ---- a text, by its lines
+
+module _ (l : List ℕ) (n : ℕ) where
+  abbrev line : List Token
+  line = map (on_line n) (line_tokens l)
+
+  one_line : (ls : List (List ℕ)) → n ≡ length ls + 1 → numbered 1 (ls ++ l ∷ []) ≡ numbered 1 ls ++ line
+  one_line ls e =
+      let k : 1 + length ls ≡ n = omega arith in
+      numbered_append 1 ls (l ∷ []) ∙ rw (k, append-nil line) refl
+
+  module _ (ls : List (List ℕ)) (e : n ≡ length ls + 1) (a b : Slots) (p : Passed (numbered 1 ls) a b) where
+    pub line_passed : (ks : List (List ℕ)) → ks ≡ ls ++ l ∷ [] → (c : Slots) → Passed line b c → Passed (numbered 1 ks) a c
+    line_passed ks more c q = rw (more, one_line ls e) (then_passed (numbered 1 ls) line a b p c q)
+
+    pub line_refused : (all rest : List (List ℕ)) → all ≡ (ls ++ l ∷ []) ++ rest → (r : RatiosError) → Refused line b r → Refused (numbered 1 all) a r
+    line_refused all rest split r q =
+        rw (split, numbered_append 1 (ls ++ l ∷ []) rest, one_line ls e)
+        (front_refused (numbered 1 ls ++ line) (numbered (1 + length (ls ++ l ∷ [])) rest) a r
+        (then_refused (numbered 1 ls) line a b p r q))

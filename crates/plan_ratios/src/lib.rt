@@ -1,14 +1,14 @@
 // Reading signal-to-mask ratios, in decibels, from a text.
 #![tactic(auto)]
 
-ghost use Rattle.std.specs.Prelude.{◌≡◌, ◌+◌, ◌*◌, ◌^◌, ◌<◌, ◌≤◌, length, drop, position};
+ghost use Rattle.std.specs.Prelude.{◌≡◌, ◌+◌, ◌*◌, ◌^◌, ◌<◌, ◌≤◌, [], ◌∷◌, length, map, MatchResult};
 ghost use Rattle.tables.specs.Decimal.{decimal};
 ghost use Rattle.plan_ratios.specs.Ratio.{few, pointed, unsigned, signed, word_value, ratio_of};
-ghost use Rattle.plan_text.specs.Bytes.{reach, pieces};
-ghost use Rattle.plan_text.specs.Lines.{ends_line};
+ghost use Rattle.plan_text.specs.Bytes.{pieces};
+ghost use Rattle.plan_text.specs.Lines.{ends_line, is_blank};
 ghost use Rattle.plan_ratios.specs.Ratios.{ratios_of};
-ghost use Rattle.plan_ratios.specs.Walk.{GapEndIs, Skipped};
-ghost use Rattle.plan_text.specs.Lines.{is_end};
+ghost use Rattle.plan_ratios.specs.Tokens.{line_tokens, on_line};
+ghost use Rattle.plan_ratios.specs.Walk.{Filled, Passed, Refused};
 
 // The words that are no numbers, and the ratios that they stand for.
 const WORDS: [(&[u8], f64); 3] = [
@@ -98,92 +98,69 @@ pub enum RatiosError {
 pub fn read_ratios(text: &[u8], slots: usize) -> Result<[f64; 64], RatiosError>
     ensures { result ≡ ratios_of slots text.now }
 {
-    let room = slots.min(64);
-    let mut ratios = [0.0; 64];
-    let mut count: usize = 0;
-    let mut place = skip_gap(text, Place { at: 0, feeds: 0 });
-    // Kept: tokens are met by their places, as the proof has them; lines by `split`, and pieces of each in a second `for`, would say the same, and that proof is not made.
-    while place.at < text.len() {
-        let line = place.feeds + 1;
-        if count == room {
+    let mut read = Slots {
+        ratios: [0.0; 64],
+        count: 0,
+        wanted: slots.min(64),
+    };
+    for (index, line) in text.split(|b| *b == b'\n').enumerate() {
+        read.take_line(line, index as u64 + 1)?;
+    }
+    if read.count < read.wanted {
+        let line = count_lines(text);
+        return Err(RatiosError::TooFew {
+            line,
+            count: read.count,
+        });
+    }
+    Ok(read.ratios)
+}
+
+// The slots: how many are wanted, and the ratios of the first `count`; those behind them have 0.0.
+#[derive(Drop)]
+struct Slots {
+    ratios: [f64; 64],
+    count: usize,
+    wanted: usize,
+}
+
+impl Slots {
+    // The ratios of a line: of the tokens before its comment.
+    fn take_line(&mut self, line: &[u8], number: u64) -> Result<(), RatiosError>
+        requires { Filled self.old }
+        ensures { MatchResult result (λ _. Passed (map (on_line number) (line_tokens line.now)) self.old self.new) (Refused (map (on_line number) (line_tokens line.now)) self.old) }
+    {
+        let end = plan_text::find_byte(line, 0, b'#');
+        for token in line[..end].split(|b| is_blank(*b)) {
+            if !token.is_empty() {
+                self.take(token, number)?;
+            }
+        }
+        Ok(())
+    }
+
+    // The ratio of a token that stands on a line.
+    fn take(&mut self, token: &[u8], line: u64) -> Result<(), RatiosError>
+        requires { Filled self.old }
+        ensures { MatchResult result (λ _. Passed (on_line line token.now ∷ []) self.old self.new) (Refused (on_line line token.now ∷ []) self.old) }
+    {
+        if self.count == self.wanted {
             return Err(RatiosError::TooMany { line });
         }
-        let end = token_end(text, place.at);
-        let Some(ratio) = read_ratio(&text[place.at..end]) else {
+        let Some(ratio) = read_ratio(token) else {
             return Err(RatiosError::NotARatio { line });
         };
-        ratios[count] = ratio;
-        count += 1;
-        place = skip_gap(
-            text,
-            Place {
-                at: end,
-                feeds: place.feeds,
-            },
-        );
+        self.ratios[self.count] = ratio;
+        self.count += 1;
+        Ok(())
     }
-    if count < room {
-        let line = count_lines(text);
-        return Err(RatiosError::TooFew { line, count });
-    }
-    Ok(ratios)
 }
 
-// A place of a text, and how many line feeds stand before it.
-#[derive(Clone, Copy)]
-struct Place {
-    at: usize,
-    feeds: u64,
-}
-
-// Past white space and comments: where the next token starts, or the text ends.
-fn skip_gap(text: &[u8], from: Place) -> Place
-    requires { (from.at ≤ length text.now) × (from.feeds ≤ from.at) }
-    ensures { Skipped text.now from result }
+// Whether a byte is white space within a line.
+fn is_blank(byte: u8) -> bool
+    ensures { result ≡ is_blank byte }
 {
-    let mut place = from;
-    // Kept: as in `read_ratios`: places, and no lines by `split`, whose proof is not made.
-    while place.at < text.len() {
-        let byte = text[place.at];
-        if !plan_text::is_end(byte) {
-            return place;
-        }
-        let feeds = place.feeds + u64::from(byte == b'\n');
-        let at = gap_end(text, place.at);
-        place = Place { at, feeds };
-    }
-    place
-}
-
-// Where a comment's line ends; past any other byte.
-fn gap_end(text: &[u8], at: usize) -> usize
-    requires { at < length text.now }
-    ensures { GapEndIs text.now at result }
-{
-    let next = at + 1;
-    if text[at] == b'#' {
-        plan_text::find_byte(text, next, b'\n')
-    } else {
-        next
-    }
-}
-
-// Where the token that starts at a place ends.
-// Kept: as plan_text's `find_byte` but for the test; a generic over a closure has to say in its contract which test the closure computes, and is no shorter than both.
-fn token_end(text: &[u8], from: usize) -> usize
-    ensures { result ≡ from + reach is_end (drop from text.now) }
-{
-    match steps_to_end(text, from) {
-        Some(steps) => from + steps,
-        None => from.max(text.len()),
-    }
-}
-
-// How many bytes stand before the first that ends a token, from a place on; nothing where none does.
-fn steps_to_end(text: &[u8], from: usize) -> Option<usize>
-    ensures { result ≡ position is_end (drop from text.now) }
-{
-    text.iter().skip(from).position(|b| plan_text::is_end(*b))
+    matches!(byte, b' ' | b'\t' | b'\r')
 }
 
 // How many lines a text has: one for each line feed, and one that is ended by the text's end.

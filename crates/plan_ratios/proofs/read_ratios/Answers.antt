@@ -1,61 +1,58 @@
 -- `plan_ratios::read_ratios` meets its contract.
-use Rattle.std.proofs.Common.{ℕ, ◌≡◌, ◌<◌, ◌≤◌, min, length, sym, refl, ap, ◌∙◌, arith}
+use Rattle.std.proofs.Common.{◌≡◌, ◌+◌, ℕ, length, sym, refl, ap, ◌∙◌, arith, rules, tests}
 use lib.Ieee.{of_bits}
 use Rattle.std.specs.Prelude.{Err}
+use Rattle.std.proofs.lemmas.List.{map-append, length-map}
+use Rattle.std.proofs.lemmas.Result.{err_from_is_err_and}
+use Rattle.plan_text.specs.Lines.{ends_line}
 use Rattle.plan_ratios.specs.declared.RatiosError.TheVariants.{TooFew}
+use Rattle.plan_ratios.specs.Tokens.{numbered, tokens_from}
 use Rattle.plan_ratios.specs.Ratios.{empty}
-use Rattle.plan_ratios.proofs.WalkLaws.{at_first, forward, within, at_many, at_unread, at_read, at_few, at_enough}
+use Rattle.plan_ratios.proofs.TokenLaws.{text_parts}
+use Rattle.plan_ratios.proofs.SplitLaws.{line_texts, its_place, its_turn, lines_end}
+use Rattle.plan_ratios.proofs.WalkLaws.{none_passed, none_filled, line_passed, line_refused, text_refused, text_few, text_enough}
 use Rattle.plan_ratios.proofs.read_ratios.Goals as goal
-use Rattle.plan_ratios.proofs.read_ratios.Goals.{After-token_end-end}
+use Rattle.plan_ratios.proofs.read_ratios.Goals.{In-Some, In-None}
 
--- no more than 64 ratios are wanted
-few : (slots room : ℕ) → room ≡ min slots 64 → room ≤ 64
-few slots room e = omega arith
+-- the line of this turn is numbered as it stands in the text
+place : (c : In-Some) → c.in-Some.index + 1 ≡ length (line_texts c.loop-index.yielded) + 1
+place c =
+    let at = its_place ends_line c.args.text.now _ _ c.loop-index.yielded c.loop-index.yielded_by
+    (record { rest = cc; done = cc; test = λ x b q k. search (rules, tests) }) (cc) _ _ c.next.ensures.steps _ c.in-Some.is in
+    omega (arith, at, length-map c.loop-index.yielded (λ x. x.1.now))
 
--- a token goes forward and ends within the text
-ahead : (c : After-token_end-end) → (c.loop-place.place.at < c.token_end-end.result) × (c.token_end-end.result ≤ length c.args.text.now)
-ahead c =
-    let inv = c.loop-place.invariant in
-    let tested = c.loop-place-test.true in
-    let ends = c.token_end-end.ensures in
-    let room = few _ _ c.min-room.ensures in
-    (forward _ _ _ room _ _ _ inv _ tested ends, within _ _ _ room _ _ _ inv _ tested ends)
+-- behind the last line all tokens are taken
+all_lines : (c : In-None) → numbered 1 (line_texts c.loop-index.yielded) ≡ tokens_from 1 c.args.text.now
+all_lines c =
+    let all = lines_end ends_line c.args.text.now _ _ c.loop-index.yielded c.loop-index.yielded_by
+    (record { rest = cc; done = cc; test = λ x b q k. search (rules, tests) }) (cc) _ _ c.next.ensures.steps c.in-None.is in
+    ap (numbered 1) all ∙ text_parts 1 c.args.text.now
 
-pub loop-place-init : goal.loop-place-init
+pub loop-index-init : goal.loop-index-init
 unfolding empty of_bits
-loop-place-init c = at_first _ _ _ _ _ c.min-room.ensures refl c.skip_gap-place.ensures
+loop-index-init c = none_passed _ (none_filled c.args.slots _ refl refl c.min.ensures)
 
-pub returns-then-count-room : goal.returns-then-count-room
-returns-then-count-room c =
-    sym (at_many _ _ _ (few _ _ c.min-room.ensures) _ _ _ c.loop-place.invariant _ c.loop-place-test.true refl c.if-count-room.true)
+pub loop-index-preserved : goal.loop-index-preserved
+loop-index-preserved c =
+    line_passed c.in-Some.line.now _ _ (place (goal.at.loop-index-preserved c).In-Some) _ _ c.loop-index.invariant _
+    (map-append (λ x. x.1.now) c.loop-index.yielded _) _ c.in_ok-take_line.ensures
 
-pub slice_bounds-read_ratio-end : goal.slice_bounds-read_ratio-end
-slice_bounds-read_ratio-end c = (ahead (goal.at.slice_bounds-read_ratio-end c).After-token_end-end).1
+pub returns-in_err-take_line : goal.returns-in_err-take_line
+returns-in_err-take_line c =
+    let turn = its_turn ends_line c.args.text.now _ _ c.loop-index.yielded c.loop-index.yielded_by
+    (record { rest = cc; done = cc; test = λ x b q k. search (rules, tests) }) (cc) _ _ c.next.ensures.steps _ c.in-Some.is in
+    let refused = line_refused c.in-Some.line.now _ _ (place (goal.at.returns-in_err-take_line c).In-Some) _ _ c.loop-index.invariant _ turn.0 turn.1 _
+    c.in_err-take_line.ensures in
+    let p = err_from_is_err_and c.from_residual.result c.from_residual.ensures.1 in
+    rw (p.1, p.2) (sym (text_refused c.args.text.now c.args.slots _ _ (text_parts 1 c.args.text.now) refl c.min.ensures _ refused))
 
-pub returns-in_default : goal.returns-in_default
-returns-in_default c =
-    sym
-    (at_unread _ _ _ (few _ _ c.min-room.ensures) _ _ _ c.loop-place.invariant _ c.loop-place-test.true c.token_end-end.ensures
-    c.if-count-room.false (sym c.read_ratio.ensures ∙ c.in_default.is))
-
-pub skip_gap-place-requires-in-loop-place : goal.skip_gap-place-requires-in-loop-place
-skip_gap-place-requires-in-loop-place c =
-    let a = ahead (goal.at.skip_gap-place-requires-in-loop-place c).After-token_end-end in
-    (a.1, omega (arith, a.0, c.loop-place.invariant.reached.counted))
-
-pub loop-place-smaller : goal.loop-place-smaller
-loop-place-smaller c = omega (arith, ahead (goal.at.loop-place-smaller c).After-token_end-end, c.skip_gap-place-in-loop-place.ensures.forward)
-
-pub loop-place-preserved : goal.loop-place-preserved
-loop-place-preserved c =
-    at_read _ _ _ (few _ _ c.min-room.ensures) _ _ _ c.loop-place.invariant _ c.loop-place-test.true c.token_end-end.ensures
-    c.if-count-room.false _ _ (sym c.read_ratio.ensures ∙ c.in-Some.is) c.skip_gap-place-in-loop-place.ensures
-
-pub returns-then-count-room-2 : goal.returns-then-count-room-2
-returns-then-count-room-2 c =
-    ap (λ (n : ℕ). Err (TooFew n c.loop-place.count)) c.count_lines-line.ensures
-    ∙ sym (at_few _ _ _ (few _ _ c.min-room.ensures) _ _ _ c.loop-place.invariant c.loop-place-test.false c.if-count-room-2.true)
+pub returns-then-read : goal.returns-then-read
+returns-then-read c =
+    let all = all_lines (goal.at.returns-then-read c).In-None in
+    ap (λ (n : ℕ). Err (TooFew n c.loop-index.read.count)) c.count_lines-line.ensures
+    ∙ sym (text_few c.args.text.now c.args.slots _ _ all refl c.min.ensures _ c.loop-index.invariant c.if-read.true)
 
 pub returns : goal.returns
 returns c =
-    sym (at_enough _ _ _ (few _ _ c.min-room.ensures) _ _ _ c.loop-place.invariant c.loop-place-test.false c.if-count-room-2.false)
+    let all = all_lines (goal.at.returns c).In-None in
+    sym (text_enough c.args.text.now c.args.slots _ _ all refl c.min.ensures _ c.loop-index.invariant c.if-read.false)

@@ -1,9 +1,7 @@
-use Rattle.std.proofs.Common.{◌-◌, length}
-use Rattle.plan_ratios.proofs.WalkLaws.{Walked}
+use Rattle.plan_ratios.specs.Tokens.{numbered}
+use Rattle.plan_ratios.specs.Walk.{Passed}
+use Rattle.plan_ratios.proofs.SplitLaws.{line_texts}
 use Rattle.plan_ratios.proofs.read_ratios.Given as goal
 
-abbrev pub invariant-loop-place : goal.invariant-loop-place
-invariant-loop-place l = Walked l.text l.fn.slots l.room l.ratios l.count l.place
-
-abbrev pub decreases-loop-place : goal.decreases-loop-place
-decreases-loop-place l = length l.text - l.place.at
+abbrev pub invariant-loop-index : goal.invariant-loop-index
+invariant-loop-index l = Passed (numbered 1 (line_texts l.yielded)) l.initial.read l.read
