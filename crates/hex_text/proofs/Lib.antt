@@ -1,3 +1,5 @@
 pub mod DigitLaws
+pub mod SplitLaws
+pub mod LineLaws
 pub mod WalkLaws
 pub mod Examples

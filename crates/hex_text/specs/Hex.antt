@@ -5,7 +5,6 @@ use Prim.Native.Char.{code}
 use Rattle.plan_text.specs.Lines.{ends_line, is_hash, is_blank}
 use Rattle.hex_text.specs.declared.HexError.{HexError}
 use Rattle.hex_text.specs.declared.HexError.TheVariants.{WrongCharacter, OddDigits}
-use Rattle.hex_text.specs.declared.Place.{Place}
 
 -- ---- a character
 
@@ -21,6 +20,11 @@ digit_of b =
     None))
 
 -- A place has the lines before it, the characters before it on its line, and whether a comment has begun there.
+pub record Place : Type 0 where
+  pub line : ℕ
+  pub column : ℕ
+  pub comment : Bool
+
 abbrev pub first_place : Place
 first_place = record { line = 0; column = 0; comment = false }
 

@@ -1,9 +1,10 @@
 // Reading bytes that are written as hexadecimal digits.
 #![tactic(auto)]
 
-ghost use Rattle.std.specs.Prelude.{◌≡◌, ◌<◌, set, IfSome};
-ghost use Rattle.hex_text.specs.Hex.{past, skipped, HexIs};
-ghost use Rattle.hex_text.specs.Walk.{WorthIs, Put, finished_as};
+ghost use Rattle.std.specs.Prelude.{◌≡◌, ◌+◌, ◌<◌, length, set, IfSome};
+ghost use Rattle.hex_text.specs.Hex.{HexIs};
+ghost use Rattle.hex_text.specs.Walk.{WorthIs, Put, OneLine, LineRead, finished_as};
+ghost use Rattle.plan_text.specs.Lines.{is_blank};
 
 // Why `read_hex` refuses; lines and columns are counted from 1.
 #[derive(Clone, Copy, Debug, PartialEq, Eq)]
@@ -12,15 +13,6 @@ pub enum HexError {
     WrongCharacter { line: u64, column: u64 },
     // The last digit, on that line, has no other beside it.
     OddDigits { line: u64 },
-}
-
-// Where the walk over the text stands: how many lines are before it, how many characters on its line, and whether a comment has begun there.
-// Kept: line and column are there in a comment and outside it, so `comment` says nothing of whether another value is.
-#[derive(Clone, Copy)]
-struct Place {
-    line: u64,
-    column: u64,
-    comment: bool,
 }
 
 // The digits so far: how many bytes they make, the one that is left over, if one is, and the line of the last.
@@ -35,57 +27,44 @@ struct Digits {
 pub fn read_hex(text: &[u8], bytes: &mut [u8]) -> Result<usize, HexError>
     ensures { HexIs text.now bytes.new result }
 {
-    let mut place = Place {
-        line: 0,
-        column: 0,
-        comment: false,
-    };
     let mut digits = Digits {
         count: 0,
         high: None,
         last: 0,
     };
-    for &byte in text {
-        if !is_skipped(place, byte) {
-            let line = place.line + 1;
-            let Some(digit) = worth(byte) else {
-                return Err(HexError::WrongCharacter {
-                    line,
-                    column: place.column + 1,
-                });
-            };
-            digits = put(digits, digit, line, bytes);
-        }
-        place = past(place, byte);
+    for (index, text) in text.split(|b| *b == b'\n').enumerate() {
+        digits = read_line(text, index as u64 + 1, digits, bytes)?;
     }
     finished(digits)
 }
 
-// Whether a byte at a place is skipped.
-fn is_skipped(place: Place, byte: u8) -> bool
-    ensures { result ≡ skipped place byte }
+// The digits of a line, which stand before its comment, behind those of the lines before it.
+fn read_line(text: &[u8], line: u64, before: Digits, bytes: &mut [u8]) -> Result<Digits, HexError>
+    requires count { before.count + length text.now < 18446744073709551616 }
+    requires high { IfSome before.high (λ high. high < 16) }
+    requires one { OneLine text.now }
+    ensures long { length bytes.new ≡ length bytes.old }
+    ensures read { LineRead text.now line before bytes.old bytes.new result }
 {
-    place.comment || plan_text::is_end(byte)
-}
-
-// The place behind a byte.
-fn past(place: Place, byte: u8) -> Place
-    requires { (place.line < 18446744073709551615) × (place.column < 18446744073709551615) }
-    ensures { result ≡ past place byte }
-{
-    if byte == b'\n' {
-        Place {
-            line: place.line + 1,
-            column: 0,
-            comment: false,
-        }
-    } else {
-        Place {
-            line: place.line,
-            column: place.column + 1,
-            comment: place.comment | (byte == b'#'),
+    let mut digits = before;
+    let end = plan_text::find_byte(text, 0, b'#');
+    for (index, &byte) in text[..end].iter().enumerate() {
+        if !is_blank(byte) {
+            let column = index as u64 + 1;
+            let Some(digit) = worth(byte) else {
+                return Err(HexError::WrongCharacter { line, column });
+            };
+            digits = put(digits, digit, line, bytes);
         }
     }
+    Ok(digits)
+}
+
+// Whether a byte is white space within a line.
+fn is_blank(byte: u8) -> bool
+    ensures { result ≡ is_blank byte }
+{
+    matches!(byte, b' ' | b'\t' | b'\r')
 }
 
 // What a byte is worth as a digit; nothing where it is none.

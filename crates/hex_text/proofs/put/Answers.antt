@@ -1,5 +1,6 @@
 -- `hex_text::put` meets its contract.
 use mathlib.Core.Path.{refl, ap, ◌∙◌}
+use native.Mathlib.Omega.{arith}
 use lib.ListN.{length, length-set}
 use Rattle.hex_text.proofs.DigitLaws.{high_put, low_put}
 use Rattle.hex_text.proofs.put.Goals as goal
@@ -12,6 +13,7 @@ returns-in-Some c =
       small = tt;
       last = refl;
       long = ap length stored ∙ simp length-set;
+      count = omega arith;
     }
 
 pub returns-in-None : goal.returns-in-None
@@ -20,4 +22,5 @@ returns-in-None c = record {
   small = c.requires.digit;
   last = refl;
   long = refl;
+  count = omega arith;
 }
