@@ -19,11 +19,11 @@ module _ (slots last : ℕ) (got : List Float) where
   enough h = rw (le-ltb (length got) slots h)
 
   module _ (t : Token) (ts : List Token) where
-    pub too_many : slots ≤ length got → answered slots last got (t ∷ ts) ≡ Err (TooMany t.line)
+    pub too_many : slots ≤ length got → answered slots last got (t ∷ ts) ≡ Err (TooMany t.line (length got))
     unfolding answered
     too_many h = rw (le-ltb (length got) slots h)
 
-    pub unread : length got < slots → ratio_of t.text ≡ None → answered slots last got (t ∷ ts) ≡ Err (NotARatio t.line)
+    pub unread : length got < slots → ratio_of t.text ≡ None → answered slots last got (t ∷ ts) ≡ Err (NotARatio t.line (length got))
     unfolding answered
     unread h e = rw (lt-ltb (length got) slots h, e)
 

@@ -30,15 +30,19 @@ module _ (s : Slots) (f : Filled s) where
 
   -- one token
   module _ (t : Token) where
-    pub full_refused : s.count ≡ s.wanted → Refused (t ∷ []) s (TooMany t.line)
-    full_refused e = record { same = λ last us. too_many s.wanted last (got s) t us (omega (arith, as_many)) }
+    pub full_refused : s.count ≡ s.wanted → Refused (t ∷ []) s (TooMany t.line s.count)
+    full_refused e = record {
+      same = λ last us. too_many s.wanted last (got s) t us (omega (arith, as_many)) ∙ ap (λ (k : ℕ). Err (TooMany t.line k)) as_many;
+    }
 
     module _ (e : s.count ≡ s.wanted → ⊥) where
       less : length (got s) < s.wanted
       less = omega (arith, as_many, f.room, e)
 
-      pub unread_refused : ratio_of t.text ≡ None → Refused (t ∷ []) s (NotARatio t.line)
-      unread_refused q = record { same = λ last us. unread s.wanted last (got s) t us less q }
+      pub unread_refused : ratio_of t.text ≡ None → Refused (t ∷ []) s (NotARatio t.line s.count)
+      unread_refused q = record {
+        same = λ last us. unread s.wanted last (got s) t us less q ∙ ap (λ (k : ℕ). Err (NotARatio t.line k)) as_many;
+      }
 
       pub below : s.count < 64
       below = omega (arith, f.most, f.room, e)
@@ -117,9 +121,11 @@ module _ (text : List ℕ) (slots : ℕ) where
           over ∙ too_few b.wanted lines (got b) (omega (arith, as_many b p.filled))
           ∙ ap (λ (k : ℕ). Err (TooFew lines k)) (as_many b p.filled)
 
-      pub text_enough : b.wanted ≤ b.count → ratios_of slots text ≡ Ok b.ratios
+      pub text_enough : b.wanted ≤ b.count → ratios_of slots text ≡ Ok (record { count = b.count; ratios = b.ratios })
       unfolding accepted
-      text_enough l = over ∙ enough b.wanted lines (got b) (omega (arith, as_many b p.filled)) ∙ ap (λ (xs : List Float). Ok xs) (whole b p.filled)
+      text_enough l = over ∙ enough b.wanted lines (got b) (omega (arith, as_many b p.filled))
+          ∙ ap (λ (xs : List Float). Ok (record { count = length (got b); ratios = xs })) (whole b p.filled)
+          ∙ ap (λ (k : ℕ). Ok (record { count = k; ratios = b.ratios })) (as_many b p.filled)
 
 -- ---- a line, by its parts
 

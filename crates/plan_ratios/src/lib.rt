@@ -83,19 +83,26 @@ fn nearest_decimal(whole: u64, fraction: u64, places: usize) -> f64
     std::num::nearest_u64_to_f64(digits) / std::num::nearest_u64_to_f64(scale)
 }
 
-// Why `read_ratios` refuses; lines are counted from 1.
+// Why `read_ratios` refuses: lines are counted from 1, and `count` ratios were read before.
 #[derive(Clone, Copy, Debug, PartialEq, Eq)]
 pub enum RatiosError {
     // A token that is no ratio.
-    NotARatio { line: u64 },
+    NotARatio { line: u64, count: usize },
     // A token behind the last slot.
-    TooMany { line: u64 },
-    // The text ends, with this line, behind `count` ratios, before the last slot is filled.
+    TooMany { line: u64, count: usize },
+    // The text ends, with this line, before the last slot is filled.
     TooFew { line: u64, count: usize },
 }
 
-// The ratios of a text, one for each slot, in their order: slot 32 * channel + subband, channel 0's first. 64 slots at most; those not asked for have 0.0.
-pub fn read_ratios(text: &[u8], slots: usize) -> Result<[f64; 64], RatiosError>
+// The ratios of a text that is accepted, and how many they are; those behind them have 0.0.
+#[derive(Clone, Copy)]
+pub struct Ratios {
+    pub count: usize,
+    pub ratios: [f64; 64],
+}
+
+// The ratios of a text, one for each slot, in their order: slot 32 * channel + subband, channel 0's first. 64 slots at most.
+pub fn read_ratios(text: &[u8], slots: usize) -> Result<Ratios, RatiosError>
     ensures { result ≡ ratios_of slots text.now }
 {
     let mut read = Slots {
@@ -113,7 +120,10 @@ pub fn read_ratios(text: &[u8], slots: usize) -> Result<[f64; 64], RatiosError>
             count: read.count,
         });
     }
-    Ok(read.ratios)
+    Ok(Ratios {
+        count: read.count,
+        ratios: read.ratios,
+    })
 }
 
 // The slots: how many are wanted, and the ratios of the first `count`; those behind them have 0.0.
@@ -145,10 +155,16 @@ impl Slots {
         ensures { MatchResult result (λ _. Passed (on_line line token.now ∷ []) self.old self.new) (Refused (on_line line token.now ∷ []) self.old) }
     {
         if self.count == self.wanted {
-            return Err(RatiosError::TooMany { line });
+            return Err(RatiosError::TooMany {
+                line,
+                count: self.count,
+            });
         }
         let Some(ratio) = read_ratio(token) else {
-            return Err(RatiosError::NotARatio { line });
+            return Err(RatiosError::NotARatio {
+                line,
+                count: self.count,
+            });
         };
         self.ratios[self.count] = ratio;
         self.count += 1;

@@ -10,6 +10,7 @@ use Rattle.layout.specs.Slots.{smr_rows}
 use Rattle.plan_words.specs.declared.Words.{Words}
 use Rattle.plan_words.specs.declared.WordsError.{WordsError}
 use Rattle.plan_words.specs.Line.{words_of}
+use Rattle.plan_ratios.specs.declared.Ratios.{Ratios}
 use Rattle.plan_ratios.specs.declared.RatiosError.{RatiosError}
 use Rattle.plan_ratios.specs.Ratios.{ratios_of}
 use Rattle.plan_page.specs.Page.{page_of}
@@ -20,11 +21,11 @@ use Rattle.planner.specs.Planner.{slots_for, with_ratios, with_words, by_words, 
 -- ---- with words
 
 module _ (w : Words) (input : List ℕ) (slots : ℕ) (q : slots ≡ slots_for w.header) where
-  given : (r : Result (List Float) RatiosError) → r ≡ ratios_of slots input → with_ratios w r ≡ with_words w input
+  given : (r : Result Ratios RatiosError) → r ≡ ratios_of slots input → with_ratios w r ≡ with_words w input
   unfolding with_words
   given r e = ap (with_ratios w) (e ∙ ap (λ (n : ℕ). ratios_of n input) q)
 
-  pub good_ratios : (r : List Float) → Ok r ≡ ratios_of slots input → (smr : List (List Float)) → smr ≡ smr_rows r
+  pub good_ratios : (r : Ratios) → Ok r ≡ ratios_of slots input → (smr : List (List Float)) → smr ≡ smr_rows r.ratios
       → page_of w.header w.banc smr ≡ with_words w input
   unfolding with_ratios
   good_ratios r e smr f = ap (page_of w.header w.banc) f ∙ given (Ok r) e

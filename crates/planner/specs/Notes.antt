@@ -18,6 +18,6 @@ too_few_text line count slots =
 
 -- of ratios that are not accepted: the line of the input, the ratios before, and how many the mode has
 abbrev pub ratios_line : RatiosError → ℕ → List ℕ
-ratios_line (NotARatio line) slots = cannot_read_text line
-ratios_line (TooMany line) slots = too_many_text line slots
+ratios_line (NotARatio line count) slots = cannot_read_text line
+ratios_line (TooMany line count) slots = too_many_text line slots
 ratios_line (TooFew line count) slots = too_few_text line count slots

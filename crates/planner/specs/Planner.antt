@@ -1,11 +1,12 @@
 -- What the planner prints, from the words of its command line, each ended by a byte 0, and from its input.
-use Rattle.std.specs.Prelude.{ℕ, ◌*◌, cond, List, [], ◌∷◌, leb, length, Float, Result, Ok, Err}
+use Rattle.std.specs.Prelude.{ℕ, ◌*◌, cond, List, [], ◌∷◌, leb, length, Result, Ok, Err}
 use Rattle.header.specs.declared.FrameHeader.{FrameHeader}
 use Rattle.header.specs.Header.{channels_of}
 use Rattle.layout.specs.Slots.{smr_rows}
 use Rattle.plan_words.specs.declared.Words.{Words}
 use Rattle.plan_words.specs.declared.WordsError.{WordsError}
 use Rattle.plan_words.specs.Line.{words_of}
+use Rattle.plan_ratios.specs.declared.Ratios.{Ratios}
 use Rattle.plan_ratios.specs.declared.RatiosError.{RatiosError}
 use Rattle.plan_ratios.specs.Ratios.{ratios_of}
 use Rattle.plan_page.specs.Page.{page_of}
@@ -17,8 +18,8 @@ abbrev pub slots_for : FrameHeader → ℕ
 slots_for h = 32 * channels_of h.mode
 
 -- with ratios: the page, or the line that says what is wrong with them
-unfoldable pub with_ratios : Words → Result (List Float) RatiosError → List (List ℕ)
-with_ratios w (Ok ratios) = page_of w.header w.banc (smr_rows ratios)
+unfoldable pub with_ratios : Words → Result Ratios RatiosError → List (List ℕ)
+with_ratios w (Ok read) = page_of w.header w.banc (smr_rows read.ratios)
 with_ratios w (Err e) = ratios_line e (slots_for w.header) ∷ []
 
 -- with words: what the ratios give

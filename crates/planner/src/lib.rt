@@ -36,7 +36,7 @@ fn with_words(words: Words, input: &[u8], n: usize) -> Option<Line>
     let header = words.header;
     let wanted = slots_for(header);
     match plan_ratios::read_ratios(input, wanted) {
-        Ok(ratios) => plan_page::page_line(header, words.banc, slots::rows(&ratios), n),
+        Ok(read) => plan_page::page_line(header, words.banc, slots::rows(&read.ratios), n),
         Err(error) => only(notes::ratios_line(error, wanted as u64), n),
     }
 }

@@ -12,8 +12,8 @@ pub fn ratios_line(error: RatiosError, slots: u64) -> Line
     ensures { text_of result ≡ ratios_line error slots }
 {
     match error {
-        RatiosError::NotARatio { line } => cannot_read(line),
-        RatiosError::TooMany { line } => too_many(line, slots),
+        RatiosError::NotARatio { line, .. } => cannot_read(line),
+        RatiosError::TooMany { line, .. } => too_many(line, slots),
         RatiosError::TooFew { line, count } => too_few(line, count as u64, slots),
     }
 }
