@@ -113,15 +113,13 @@ pub fn read_ratios(text: &[u8], slots: usize) -> Result<Ratios, RatiosError>
     for (index, line) in text.split(|b| *b == b'\n').enumerate() {
         read.take_line(line, index as u64 + 1)?;
     }
+    let count = read.count;
     if read.count < read.wanted {
         let line = count_lines(text);
-        return Err(RatiosError::TooFew {
-            line,
-            count: read.count,
-        });
+        return Err(RatiosError::TooFew { line, count });
     }
     Ok(Ratios {
-        count: read.count,
+        count,
         ratios: read.ratios,
     })
 }
@@ -154,17 +152,12 @@ impl Slots {
         requires { Filled self.old }
         ensures { MatchResult result (λ _. Passed (on_line line token.now ∷ []) self.old self.new) (Refused (on_line line token.now ∷ []) self.old) }
     {
+        let count = self.count;
         if self.count == self.wanted {
-            return Err(RatiosError::TooMany {
-                line,
-                count: self.count,
-            });
+            return Err(RatiosError::TooMany { line, count });
         }
         let Some(ratio) = read_ratio(token) else {
-            return Err(RatiosError::NotARatio {
-                line,
-                count: self.count,
-            });
+            return Err(RatiosError::NotARatio { line, count });
         };
         self.ratios[self.count] = ratio;
         self.count += 1;
