@@ -7,4 +7,4 @@ mod refusal;
 
 pub use budget::budget_held;
 pub use lines::{Label, bits_line, demand_line, frame_line, free_line};
-pub use refusal::refusal_line;
+pub use refusal::{numbered_line, refusal_line};

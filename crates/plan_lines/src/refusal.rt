@@ -2,7 +2,7 @@
 ghost use Rattle.std.specs.Prelude.{◌≡◌, ◌++◌};
 ghost use Rattle.text_line.specs.Line.{text_of, cut};
 ghost use Rattle.plan_lines.specs.Held.{told};
-ghost use Rattle.plan_lines.specs.Refusal.{off_ladder_text, no_table_text, too_small_text, advice_text, reason_text, refusal_line};
+ghost use Rattle.plan_lines.specs.Refusal.{off_ladder_text, no_table_text, no_sample_rate_text, too_large_text, too_small_text, advice_text, other_text, reason_text, refusal_line};
 
 use encoder_bit_budget::BitAllocError;
 use header::FrameHeader;
@@ -11,25 +11,35 @@ use text_line::Line;
 pub fn refusal_line(header: FrameHeader, error: BitAllocError) -> Line
     ensures { text_of result ≡ told (refusal_line header) error }
 {
-    let line = Line::new()
-        .text(b"refused ")
-        .number(error.number() as u64)
-        .text(b": ");
-    reason(line, header, error)
+    match error {
+        BitAllocError::InsufficientFrameSize { cb, fixed, banc } => {
+            numbered_line(header, error.number(), cb, fixed, banc)
+        }
+        _ => numbered_line(header, error.number(), 0, 0, 0),
+    }
 }
 
-fn reason(line: Line, header: FrameHeader, error: BitAllocError) -> Line
-    ensures { text_of result ≡ cut (text_of line ++ told (reason_text header) error) }
+// The line of an answer's number; the bits are said beside 4 alone.
+pub fn numbered_line(header: FrameHeader, number: u32, cb: u32, fixed: u32, banc: u32) -> Line
+    ensures { text_of result ≡ refusal_line header number cb fixed banc }
 {
-    match error {
-        BitAllocError::RateOffLadder => off_ladder(line, header.lsf),
-        BitAllocError::NoBitallocTable => no_table(line),
-        BitAllocError::ZeroSampleRate => {
-            line.text(b"the sample rate is 0: say fs=24000 or another in Hz.")
-        }
-        BitAllocError::InsufficientFrameSize { cb, fixed, banc } => {
-            advice(too_small(line, cb, fixed, banc), header.is_free_format())
-        }
+    let line = Line::new()
+        .text(b"refused ")
+        .number(number as u64)
+        .text(b": ");
+    reason(line, header, number, cb, fixed, banc)
+}
+
+fn reason(line: Line, header: FrameHeader, number: u32, cb: u32, fixed: u32, banc: u32) -> Line
+    ensures { text_of result ≡ cut (text_of line ++ reason_text header number cb fixed banc) }
+{
+    match number {
+        16 => off_ladder(line, header.lsf),
+        1 => no_table(line),
+        2 => no_sample_rate(line),
+        3 => too_large(line),
+        4 => advice(too_small(line, cb, fixed, banc), header.is_free_format()),
+        _ => other(line),
     }
 }
 
@@ -50,6 +60,19 @@ fn no_table(line: Line) -> Line
         .text(
             b"give 32000, 48000, 56000, 64000, 80000, 96000, 112000, 128000, 160000 or 192000 bit/s for each channel; at 16000, 22050 and 24000 Hz say lsf=1.",
         )
+}
+
+fn no_sample_rate(line: Line) -> Line
+    ensures { text_of result ≡ cut (text_of line ++ no_sample_rate_text) }
+{
+    line.text(b"the sample rate is 0: say fs=24000 or another in Hz.")
+}
+
+// No allocation is refused by 3.
+fn too_large(line: Line) -> Line
+    ensures { text_of result ≡ cut (text_of line ++ too_large_text) }
+{
+    line.text(b"the frame is over 536870911 bytes: lower rate or raise fs.")
 }
 
 fn too_small(line: Line, cb: u32, fixed: u32, banc: u32) -> Line
@@ -73,4 +96,11 @@ fn advice(line: Line, free: bool) -> Line
     } else {
         b"raise rate or lower ancillary."
     })
+}
+
+// A number that has no sentence.
+fn other(line: Line) -> Line
+    ensures { text_of result ≡ cut (text_of line ++ other_text) }
+{
+    line.text(b"what this number says stands in docs/ANSWERS.md.")
 }

@@ -1,38 +1,27 @@
 // The line of side information that is refused.
-ghost use Rattle.std.specs.Prelude.{◌≡◌, ℕ, List};
-ghost use Rattle.encoder_bit_budget.specs.Budget.{error_number};
-ghost use Rattle.plan_lines.specs.Held.{told};
+ghost use Rattle.std.specs.Prelude.{◌≡◌};
 ghost use Rattle.text_line.specs.Line.{text_of};
-ghost use Rattle.side_info_reader.specs.Errors as reader;
+ghost use Rattle.side_info_reader.specs.Errors.{error_number};
 ghost use Rattle.side_page.specs.Page.{cut_short_text, reserved_text, refused_line};
 
-use encoder_bit_budget::BitAllocError;
 use header::FrameHeader;
 use side_info_reader::ReadError;
 use text_line::Line;
 
 pub fn refused_line(header: FrameHeader, error: ReadError, given: u64) -> Line
-    ensures { text_of result ≡ refused_line header (reader.error_number error) given }
+    ensures { text_of result ≡ refused_line header (error_number error) given }
 {
-    match error {
-        ReadError::EndOfBytes => cut_short(given),
-        ReadError::ReservedIndex => reserved(),
-        ReadError::Header(error) => plan_lines::refusal_line(header, without_bits(error)),
-    }
+    numbered_line(header, error.number(), given)
 }
 
-// The page names no bits beside a number: 4 alone has any, and no reader gives it.
-// Kept: the definition of this line takes the number alone and says 0 for the bits; one match by numbers, tried before, gave each header's refusal an arm and wrote these zeros too.
-fn without_bits(error: BitAllocError) -> BitAllocError
-    ensures { (said : ℕ → ℕ → ℕ → ℕ → List ℕ) → told said result ≡ said (error_number error) 0 0 0 }
+// The line of an answer's number. The page names no bits beside a number: 4 alone has any, and no reader gives it.
+pub fn numbered_line(header: FrameHeader, number: u32, given: u64) -> Line
+    ensures { text_of result ≡ refused_line header number given }
 {
-    match error {
-        BitAllocError::InsufficientFrameSize { .. } => BitAllocError::InsufficientFrameSize {
-            cb: 0,
-            fixed: 0,
-            banc: 0,
-        },
-        _ => error,
+    match number {
+        9 => cut_short(given),
+        10 => reserved(),
+        _ => plan_lines::numbered_line(header, number, 0, 0, 0),
     }
 }
 
