@@ -54,6 +54,6 @@ module _ (words input : List ℕ) where
     unfolding by_words
     good_words w e = read (Ok w) e
 
-    pub bad_words : (e : WordsError) (t : List ℕ) → Err e ≡ words_of words → t ≡ words_line words e → t ∷ [] ≡ plan_of words input
+    pub bad_words : (e : WordsError) (t : List ℕ) → Err e ≡ words_of words → t ≡ words_line words (Err e) → t ∷ [] ≡ plan_of words input
     unfolding by_words
     bad_words e t q f = ap (λ (s : List ℕ). s ∷ []) f ∙ read (Err e) q

@@ -29,7 +29,7 @@ with_words w input = with_ratios w (ratios_of (slots_for w.header) input)
 -- the same, or the line that says what is wrong with the words
 unfoldable pub by_words : List ℕ → List ℕ → Result Words WordsError → List (List ℕ)
 by_words words input (Ok w) = with_words w input
-by_words words input (Err e) = words_line words e ∷ []
+by_words words input (Err e) = words_line words (Err e) ∷ []
 
 -- the whole answer, line by line
 unfoldable pub plan_of : List ℕ → List ℕ → List (List ℕ)

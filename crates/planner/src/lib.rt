@@ -25,7 +25,7 @@ pub fn plan_line(words: &[u8], input: &[u8], n: usize) -> Option<Line>
     }
     match plan_words::read_words(words) {
         Ok(read) => with_words(read, input, n),
-        Err(error) => only(word_notes::words_line(words, error), n),
+        Err(error) => only(word_notes::words_line(words, Err(error)), n),
     }
 }
 

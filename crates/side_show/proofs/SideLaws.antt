@@ -85,5 +85,5 @@ module _ (words input : List ℕ) where
     pub good_words : (w : Words) → Ok w ≡ words_of words → with_input w.header input ≡ side_of words input
     good_words w e = read (Ok w) e
 
-    pub bad_words : (x : WordsError) (t : List ℕ) → Err x ≡ words_of words → t ≡ words_line words x → t ∷ [] ≡ side_of words input
+    pub bad_words : (x : WordsError) (t : List ℕ) → Err x ≡ words_of words → t ≡ words_line words (Err x) → t ∷ [] ≡ side_of words input
     bad_words x t e g = ap (λ (s : List ℕ). s ∷ []) g ∙ read (Err x) e

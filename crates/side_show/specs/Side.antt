@@ -31,7 +31,7 @@ with_input h input =
 -- with words: what the input gives, or the line that says what is wrong with the words. Ancillary bits change nothing.
 abbrev pub with_words : List ℕ → Result Words WordsError → List ℕ → List (List ℕ)
 with_words words (Ok w) input = with_input w.header input
-with_words words (Err e) input = words_line words e ∷ []
+with_words words (Err e) input = words_line words (Err e) ∷ []
 
 -- the whole answer, line by line
 unfoldable pub side_of : List ℕ → List ℕ → List (List ℕ)

@@ -20,7 +20,7 @@ pub fn side_line(words: &[u8], input: &[u8], n: usize) -> Option<Line>
     }
     match plan_words::read_words(words) {
         Ok(read) => with_input(read.header, input, n),
-        Err(error) => only(word_notes::words_line(words, error), n),
+        Err(error) => only(word_notes::words_line(words, Err(error)), n),
     }
 }
 

@@ -1,6 +1,7 @@
 -- The line that stands alone where the words of a command line cannot be read, or where the words or the input are too long.
-use Rattle.std.specs.Prelude.{ℕ, ◌-◌, min, Bool, is_ok, List, ◌++◌, take, drop}
+use Rattle.std.specs.Prelude.{ℕ, ◌-◌, min, Bool, is_ok, List, [], ◌++◌, take, drop, Result, Ok, Err}
 use Rattle.plan_words.specs.declared.WordPlace.{WordPlace}
+use Rattle.plan_words.specs.declared.Words.{Words}
 use Rattle.plan_words.specs.declared.WordsError.{WordsError}
 use Rattle.plan_words.specs.declared.WordsError.TheVariants.{Unknown, Twice, NoSampleRate, NoBitRate}
 use Rattle.plan_words.specs.Line.{words_of}
@@ -24,11 +25,12 @@ unfoldable pub twice_text : List ℕ → WordPlace → List ℕ
 twice_text words p = text "set twice, the second time by '" ++ excerpt words p ++ text "'."
 
 -- of words that are not accepted
-abbrev pub words_line : List ℕ → WordsError → List ℕ
-words_line words (Unknown p) = unknown_text words p
-words_line words (Twice p) = twice_text words p
-words_line words NoSampleRate = text "fs is missing: say fs=48000 or another sample rate in Hz."
-words_line words NoBitRate = text "rate is missing: say rate=192000 or another bit rate in bit/s."
+abbrev pub words_line : List ℕ → Result Words WordsError → List ℕ
+words_line words (Ok w) = []
+words_line words (Err (Unknown p)) = unknown_text words p
+words_line words (Err (Twice p)) = twice_text words p
+words_line words (Err NoSampleRate) = text "fs is missing: say fs=48000 or another sample rate in Hz."
+words_line words (Err NoBitRate) = text "rate is missing: say rate=192000 or another bit rate in bit/s."
 
 -- the line of the input that a note is about
 unfoldable pub on_line : ℕ → List ℕ

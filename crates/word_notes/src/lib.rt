@@ -6,7 +6,7 @@ ghost use Rattle.std.specs.Prelude.{◌≡◌, ◌++◌};
 ghost use Rattle.text_line.specs.Line.{text_of, cut};
 ghost use Rattle.word_notes.specs.Notes.{excerpt, unknown_text, twice_text, words_line, wants_input, on_line, long_words_line, long_input_line};
 
-use plan_words::{WordPlace, WordsError};
+use plan_words::{WordPlace, Words, WordsError};
 use text_line::Line;
 
 // Words are shorter than this many bytes, with the byte 0 behind each, and an input than that many: buffers of these sizes tell which is too long.
@@ -22,17 +22,18 @@ pub fn wants_input(words: &[u8]) -> bool
     plan_words::read_words(words).is_ok()
 }
 
-// The line that says what is wrong with words.
-pub fn words_line(words: &[u8], error: WordsError) -> Line
-    ensures { text_of result ≡ words_line words.now error }
+// The line that says what is wrong with words, from what they were read as; empty where they are accepted.
+pub fn words_line(words: &[u8], read: Result<Words, WordsError>) -> Line
+    ensures { text_of result ≡ words_line words.now read }
 {
-    match error {
-        WordsError::Unknown(place) => unknown_word(words, place),
-        WordsError::Twice(place) => twice_word(words, place),
-        WordsError::NoSampleRate => {
+    match read {
+        Ok(_) => Line::new(),
+        Err(WordsError::Unknown(place)) => unknown_word(words, place),
+        Err(WordsError::Twice(place)) => twice_word(words, place),
+        Err(WordsError::NoSampleRate) => {
             Line::new().text(b"fs is missing: say fs=48000 or another sample rate in Hz.")
         }
-        WordsError::NoBitRate => {
+        Err(WordsError::NoBitRate) => {
             Line::new().text(b"rate is missing: say rate=192000 or another bit rate in bit/s.")
         }
     }
