@@ -4,7 +4,6 @@
 ghost use Rattle.std.specs.Prelude.{◌≡◌, ◌+◌, ◌<◌, length, set, IfSome};
 ghost use Rattle.hex_text.specs.Hex.{HexIs};
 ghost use Rattle.hex_text.specs.Walk.{WorthIs, Put, OneLine, LineRead, finished_as};
-ghost use Rattle.plan_text.specs.Lines.{is_blank};
 
 // Why `read_hex` refuses; lines and columns are counted from 1.
 #[derive(Clone, Copy, Debug, PartialEq, Eq)]
@@ -47,9 +46,9 @@ fn read_line(text: &[u8], line: u64, before: Digits, bytes: &mut [u8]) -> Result
     ensures read { LineRead text.now line before bytes.old bytes.new result }
 {
     let mut digits = before;
-    let end = plan_text::find_byte(text, 0, b'#');
+    let end = plan_text::find_byte(text, 0, plan_text::HASH);
     for (index, &byte) in text[..end].iter().enumerate() {
-        if !is_blank(byte) {
+        if !plan_text::is_blank(byte) {
             let column = index as u64 + 1;
             let Some(digit) = worth(byte) else {
                 return Err(HexError::WrongCharacter { line, column });
@@ -58,13 +57,6 @@ fn read_line(text: &[u8], line: u64, before: Digits, bytes: &mut [u8]) -> Result
         }
     }
     Ok(digits)
-}
-
-// Whether a byte is white space within a line.
-fn is_blank(byte: u8) -> bool
-    ensures { result ≡ is_blank byte }
-{
-    matches!(byte, b' ' | b'\t' | b'\r')
 }
 
 // What a byte is worth as a digit; nothing where it is none.

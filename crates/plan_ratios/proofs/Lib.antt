@@ -1,7 +1,6 @@
 pub mod DecimalLaws
 pub mod RatioLaws
 pub mod TokenLaws
-pub mod SplitLaws
 pub mod AnswerLaws
 pub mod WalkLaws
 pub mod Examples

@@ -5,7 +5,7 @@ ghost use Rattle.std.specs.Prelude.{◌≡◌, ◌+◌, ◌*◌, ◌^◌, ◌<�
 ghost use Rattle.tables.specs.Decimal.{decimal};
 ghost use Rattle.plan_ratios.specs.Ratio.{few, pointed, unsigned, signed, word_value, ratio_of};
 ghost use Rattle.plan_text.specs.Bytes.{pieces};
-ghost use Rattle.plan_text.specs.Lines.{ends_line, is_blank};
+ghost use Rattle.plan_text.specs.Lines.{ends_line};
 ghost use Rattle.plan_ratios.specs.Ratios.{ratios_of};
 ghost use Rattle.plan_ratios.specs.Tokens.{line_tokens, on_line};
 ghost use Rattle.plan_ratios.specs.Walk.{Filled, Passed, Refused};
@@ -138,8 +138,8 @@ impl Slots {
         requires { Filled self.old }
         ensures { MatchResult result (λ _. Passed (map (on_line number) (line_tokens line.now)) self.old self.new) (Refused (map (on_line number) (line_tokens line.now)) self.old) }
     {
-        let end = plan_text::find_byte(line, 0, b'#');
-        for token in line[..end].split(|b| is_blank(*b)) {
+        let end = plan_text::find_byte(line, 0, plan_text::HASH);
+        for token in line[..end].split(|b| plan_text::is_blank(*b)) {
             if !token.is_empty() {
                 self.take(token, number)?;
             }
@@ -163,13 +163,6 @@ impl Slots {
         self.count += 1;
         Ok(())
     }
-}
-
-// Whether a byte is white space within a line.
-fn is_blank(byte: u8) -> bool
-    ensures { result ≡ is_blank byte }
-{
-    matches!(byte, b' ' | b'\t' | b'\r')
 }
 
 // How many lines a text has: one for each line feed, and one that is ended by the text's end.

@@ -1,3 +1,4 @@
 pub mod ByteLaws
 pub mod DigitLaws
 pub mod TableLaws
+pub mod SplitLaws

@@ -4,7 +4,7 @@
 ghost use Rattle.std.specs.Prelude.{◌≡◌, ◌+◌, ◌==◌, min, drop, eqb, position};
 ghost use Rattle.plan_text.specs.Bytes.{reach};
 ghost use Rattle.plan_text.specs.Digits.{number_to};
-ghost use Rattle.plan_text.specs.Lines.{is_end};
+ghost use Rattle.plan_text.specs.Lines.{is_blank, is_end};
 ghost use Rattle.plan_text.specs.Table.{looked_up};
 
 // What stands beside the first entry of a table with a word.
@@ -32,11 +32,21 @@ fn steps_to(text: &[u8], from: usize, byte: u8) -> Option<usize>
     text.iter().skip(from).position(|b| *b == byte)
 }
 
+// What starts a comment.
+pub const HASH: u8 = b'#';
+
+// Whether a byte is white space within a line: a space, a tab or a carriage return.
+pub fn is_blank(byte: u8) -> bool
+    ensures { result ≡ is_blank byte }
+{
+    matches!(byte, b' ' | b'\t' | b'\r')
+}
+
 // Whether a byte ends a token: a line feed, the # of a comment, a space, a tab or a carriage return.
 pub fn is_end(byte: u8) -> bool
     ensures { result ≡ is_end byte }
 {
-    matches!(byte, b'\n' | b'#' | b' ' | b'\t' | b'\r')
+    (byte == b'\n') | (byte == HASH) | is_blank(byte)
 }
 
 // The place past a byte that was found, or the end where there is none.

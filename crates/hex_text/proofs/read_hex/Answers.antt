@@ -5,7 +5,7 @@ use Rattle.std.proofs.lemmas.List.{map-append, length-map}
 use Rattle.std.proofs.lemmas.Result.{err_from_is_err_and}
 use Rattle.plan_text.specs.Lines.{ends_line}
 use Rattle.hex_text.specs.Hex.{HexIs}
-use Rattle.hex_text.proofs.SplitLaws.{line_texts, its_place, its_turn, lines_end}
+use Rattle.plan_text.proofs.SplitLaws.{line_texts, its_place, its_turn, lines_end}
 use Rattle.hex_text.proofs.WalkLaws.{at_first, line_one, line_room, line_refused, line_passed, at_end}
 use Rattle.hex_text.proofs.read_hex.Goals as goal
 use Rattle.hex_text.proofs.read_hex.Goals.{In-Some}

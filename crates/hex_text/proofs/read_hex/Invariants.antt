@@ -1,4 +1,4 @@
-use Rattle.hex_text.proofs.SplitLaws.{line_texts}
+use Rattle.plan_text.proofs.SplitLaws.{line_texts}
 use Rattle.hex_text.proofs.WalkLaws.{Walked}
 use Rattle.hex_text.proofs.read_hex.Given as goal
 

@@ -9,7 +9,7 @@ use Rattle.plan_ratios.specs.declared.RatiosError.TheVariants.{TooFew}
 use Rattle.plan_ratios.specs.Tokens.{numbered, tokens_from}
 use Rattle.plan_ratios.specs.Ratios.{empty}
 use Rattle.plan_ratios.proofs.TokenLaws.{text_parts}
-use Rattle.plan_ratios.proofs.SplitLaws.{line_texts, its_place, its_turn, lines_end}
+use Rattle.plan_text.proofs.SplitLaws.{line_texts, its_place, its_turn, lines_end}
 use Rattle.plan_ratios.proofs.WalkLaws.{none_passed, none_filled, line_passed, line_refused, text_refused, text_few, text_enough}
 use Rattle.plan_ratios.proofs.read_ratios.Goals as goal
 use Rattle.plan_ratios.proofs.read_ratios.Goals.{In-Some, In-None}

@@ -7,7 +7,7 @@ use Rattle.plan_text.proofs.ByteLaws.{found_most}
 use Rattle.plan_ratios.specs.Tokens.{filled, on_line}
 use Rattle.plan_ratios.specs.Walk.{Passed, Refused}
 use Rattle.plan_ratios.proofs.TokenLaws.{cut_parts}
-use Rattle.plan_ratios.proofs.SplitLaws.{texts, part_turn, part_end}
+use Rattle.plan_text.proofs.SplitLaws.{texts, part_turn, part_end}
 use Rattle.plan_ratios.proofs.WalkLaws.{part_skipped, part_passed, part_refused}
 use Rattle.plan_ratios.proofs.Slots.take_line.Goals as goal
 use Rattle.plan_ratios.proofs.Slots.take_line.Goals.{After-into_iter-token-iterator}
