@@ -1,5 +1,5 @@
 // The lines above and below the rows.
-ghost use Rattle.std.specs.Prelude.{◌≡◌, ◌++◌};
+ghost use Rattle.std.specs.Prelude.{◌≡◌, ◌++◌, ◌≤◌, length};
 ghost use Rattle.text_line.specs.Line.{text_of, cut};
 ghost use Rattle.plan_lines.specs.Lines.{table_text, limits_text, frame_line, free_line, label_text, bits_line, balance_text, demand_line};
 
@@ -82,10 +82,15 @@ impl Label {
 pub fn bits_line(label: Label, n: u64) -> Line
     ensures { text_of result ≡ bits_line (label_text label) n }
 {
-    Line::new()
-        .text(label.bytes())
-        .number_in(6, n)
-        .text(b" bits")
+    labelled_bits(label.bytes(), n)
+}
+
+// A number of bits behind any label that is as short.
+pub fn labelled_bits(label: &[u8], n: u64) -> Line
+    requires { length label.now ≤ 8 }
+    ensures { text_of result ≡ bits_line label.now n }
+{
+    Line::new().text(label).number_in(6, n).text(b" bits")
 }
 
 pub fn demand_line(demand: u64, offered: u64) -> Line
