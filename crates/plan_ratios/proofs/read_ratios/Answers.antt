@@ -1,5 +1,5 @@
 -- `plan_ratios::read_ratios` meets its contract.
-use Rattle.std.proofs.Common.{◌≡◌, ◌+◌, ℕ, length, sym, refl, ap, ◌∙◌, arith, rules, tests}
+use Rattle.std.proofs.Common.{◌≡◌, ◌+◌, ℕ, length, sym, refl, ap, ◌∙◌, arith, rules, tests, eqb-true}
 use lib.Ieee.{of_bits}
 use Rattle.std.specs.Prelude.{Err}
 use Rattle.std.proofs.lemmas.List.{map-append, length-map}
@@ -10,7 +10,7 @@ use Rattle.plan_ratios.specs.Tokens.{numbered, tokens_from}
 use Rattle.plan_ratios.specs.Ratios.{empty}
 use Rattle.plan_ratios.proofs.TokenLaws.{text_parts}
 use Rattle.plan_text.proofs.SplitLaws.{line_texts, its_place, its_turn, lines_end}
-use Rattle.plan_ratios.proofs.WalkLaws.{none_passed, none_filled, line_passed, line_refused, text_refused, text_few, text_enough}
+use Rattle.plan_ratios.proofs.WalkLaws.{none_passed, none_filled, line_passed, line_refused, empty_line, text_refused, text_few, text_enough}
 use Rattle.plan_ratios.proofs.read_ratios.Goals as goal
 use Rattle.plan_ratios.proofs.read_ratios.Goals.{In-Some, In-None}
 
@@ -32,10 +32,15 @@ pub loop-index-init : goal.loop-index-init
 unfolding empty of_bits
 loop-index-init c = none_passed _ (none_filled c.args.slots _ refl refl c.min.ensures)
 
+pub loop-index-preserved-in-Continue-1 : goal.loop-index-preserved-in-Continue-1
+loop-index-preserved-in-Continue-1 c =
+    line_passed c.in-Some.line.now _ _ (place (goal.at.loop-index-preserved-in-Continue-1 c).In-Some) _ _ c.loop-index.invariant _
+    (map-append (λ x. x.1.now) c.loop-index.yielded _) _ c.in_ok-take_line.ensures
+
 pub loop-index-preserved : goal.loop-index-preserved
 loop-index-preserved c =
-    line_passed c.in-Some.line.now _ _ (place (goal.at.loop-index-preserved c).In-Some) _ _ c.loop-index.invariant _
-    (map-append (λ x. x.1.now) c.loop-index.yielded _) _ c.in_ok-take_line.ensures
+    empty_line _ _ c.in-Some.line.now _ _ c.loop-index.invariant (eqb-true _ 0 (sym c.is_empty.ensures ∙ c.if-not-is_empty.false))
+    (map-append (λ x. x.1.now) c.loop-index.yielded _)
 
 pub returns-in_err-take_line : goal.returns-in_err-take_line
 returns-in_err-take_line c =
