@@ -55,7 +55,7 @@ module _ (h : FrameHeader) (banc : ℕ) (smr : List (List Float)) (a : Allocatio
       ∙ (λ i. page_by h smr (sym p i) (sym (o ∙ ap (λ (b : FixedBitBudget). natural (offered_in b banc)) p) i) (sym d i) a)
       ∙ opened_accepted h smr b offered demand a z
 
-  page_refused : (a.number ≡ 0 → ⊥) → page_of h banc smr ≡ refusal_line h a.number a.cb a.fixed a.banc ∷ []
+  pub page_refused : (a.number ≡ 0 → ⊥) → page_of h banc smr ≡ refusal_line h a.number a.cb a.fixed a.banc ∷ []
   page_refused z = by ∙ opened_refused h smr (budget_of q).budget (natural (offered_of q)) (demand_of h smr).bits a z
 
 -- ---- a refused allocation
@@ -117,6 +117,10 @@ module _ (b : FixedBitBudget) (offered demand : ℕ) (steps : List ℕ) (left : 
 
   until_foot : length (head ++ body) ≡ 6 + b.sblimit
   until_foot = length-append head body ∙ ap (λ (n : ℕ). 6 + n) (length_tabulate b.sblimit (subband_line (layout_in b) steps smr))
+
+  pub accepted_length : length (accepted_page b offered demand steps left smr) ≡ 9 + b.sblimit
+  unfolding accepted_page
+  accepted_length = length-append (head ++ body) foot ∙ omega (arith, until_foot)
 
   pub in_head : (n : ℕ) → n < 6 → slice_get (accepted_page b offered demand steps left smr) n ≡ slice_get (head_of b offered demand) n
   unfolding accepted_page

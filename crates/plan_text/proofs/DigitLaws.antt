@@ -108,6 +108,16 @@ read_told most n bs = go (digits bs) (leb (numeral bs) most)
     go true false e = absurd (none-some n e)
     go false l e = absurd (none-some n e)
 
+-- it is at most the most
+pub read_most : (most n : ℕ) (bs : List ℕ) → number_to most bs ≡ Some n → n ≤ most
+unfolding number_to
+read_most most n bs = go (digits bs) (leb (numeral bs) most) refl
+  where
+    go : (d l : Bool) → leb (numeral bs) most ≡ l → cond (d && l) (Some (numeral bs)) None ≡ Some n → n ≤ most
+    go true true g e = let z = same_Some _ _ e in let h = leb-true (numeral bs) most g in omega arith
+    go true false g e = absurd (none-some n e)
+    go false l g e = absurd (none-some n e)
+
 -- a number that is small enough is missing only where a byte is not a digit
 pub unread_told : (most : ℕ) (bs : List ℕ) → 10 ^ length bs ≤ most + 1 → number_to most bs ≡ None → digits bs ≡ false
 unfolding number_to

@@ -1,13 +1,15 @@
 -- Laws of the words with a number.
-use Rattle.std.proofs.Common.{◌≡◌, ℕ, ◌<◌, false, cond, List, length, leb, eqb, refl, sym, arith}
+use Rattle.std.proofs.Common.{◌≡◌, ℕ, ◌<◌, ◌≤◌, Bool, true, false, cond, List, length, take, drop, leb, eqb, refl, sym, arith}
 use Rattle.std.specs.Prelude.{None, Some, Result, Ok, Err}
 use Rattle.std.specs.Result.{OkIff, result_ok}
+use Rattle.std.proofs.lemmas.Option.{none-some}
 use Rattle.std.proofs.lemmas.Result.{OkIff-at_ok, OkIff-at_err}
 use lib.Dec.{lit≤}
 use borrow.Author.Tests.{le-leb, lt-leb}
+use Rattle.plan_text.specs.Bytes.{same}
 use Rattle.plan_text.specs.Digits.{number_to}
-use Rattle.plan_text.proofs.DigitLaws.{read_less, unread_less}
-use Rattle.plan_words.specs.Word.{number}
+use Rattle.plan_text.proofs.DigitLaws.{read_most, read_less, unread_less}
+use Rattle.plan_words.specs.Word.{number, value_after}
 
 -- ---- a number of 32 bits, from one of fifteen digits
 
@@ -32,3 +34,21 @@ module _ (v : List ℕ) (h : eqb (length v) 0 ≡ false) where
   pub read : (n : ℕ) → Some n ≡ number_to most v → cond (leb n 4_294_967_295) (Some n) None ≡ number v
   unfolding number
   read n e = rw h (sym (read_less most 4_294_967_295 v n (sym e)))
+
+-- a number that is read has 32 bits
+pub in_32_bits : (v : List ℕ) (n : ℕ) → number v ≡ Some n → n ≤ 4_294_967_295
+unfolding number
+in_32_bits v n = go (eqb (length v) 0)
+  where
+    go : (b : Bool) → cond b None (number_to 4_294_967_295 v) ≡ Some n → n ≤ 4_294_967_295
+    go true e = absurd (none-some n e)
+    go false e = read_most 4_294_967_295 n v e
+
+-- and so has one behind a key
+pub value_in_32_bits : (key w : List ℕ) (n : ℕ) → value_after key w ≡ Some n → n ≤ 4_294_967_295
+unfolding value_after
+value_in_32_bits key w n = go (same (take (length key) w) key)
+  where
+    go : (b : Bool) → cond b (number (drop (length key) w)) None ≡ Some n → n ≤ 4_294_967_295
+    go true e = in_32_bits (drop (length key) w) n e
+    go false e = absurd (none-some n e)

@@ -1,7 +1,7 @@
 // The line of side information that is refused.
 ghost use Rattle.std.specs.Prelude.{◌≡◌};
 ghost use Rattle.text_line.specs.Line.{text_of};
-ghost use Rattle.side_info_reader.specs.Errors.{error_number};
+ghost use Rattle.side_info_reader.specs.Errors as reader;
 ghost use Rattle.side_page.specs.Page.{cut_short_text, reserved_text, refused_line};
 
 use header::FrameHeader;
@@ -9,7 +9,7 @@ use side_info_reader::ReadError;
 use text_line::Line;
 
 pub fn refused_line(header: FrameHeader, error: ReadError, given: u64) -> Line
-    ensures { text_of result ≡ refused_line header (error_number error) given }
+    ensures { text_of result ≡ refused_line header (reader.error_number error) given }
 {
     numbered_line(header, error.number(), given)
 }
