@@ -1,7 +1,7 @@
 -- The walk over a text: tokens that are taken one behind the other, and what follows where all are.
-use Rattle.std.proofs.Common.{◌≡◌, ◌==◌, true, false, true≢false, map, eqb-true, ℕ, suc, ◌+◌, ◌-◌, ◌<◌, ◌≤◌, List, [], ◌∷◌, ◌++◌, length, take, drop, set, sym, refl, ap, ◌∙◌, add-one, arith, length-set, take-append-drop, length-take-le, drop-drop, take-suc-set, drop-set-lt}
+use Rattle.std.proofs.Common.{◌≡◌, ℕ, suc, ◌+◌, ◌-◌, ◌<◌, ◌≤◌, List, [], ◌∷◌, ◌++◌, length, take, drop, set, sym, refl, ap, ◌∙◌, add-one, arith, length-set, take-append-drop, length-take-le, drop-drop, take-suc-set, drop-set-lt}
 use Rattle.std.specs.Prelude.{Some, None, Ok, Err}
-use Rattle.std.proofs.lemmas.List.{append_assoc, append-nil, map-append}
+use Rattle.std.proofs.lemmas.List.{append_assoc, append-nil}
 use lib.Ieee.{Float}
 use Rattle.plan_text.specs.Bytes.{pieces}
 use Rattle.plan_text.specs.Lines.{ends_line}
@@ -9,11 +9,10 @@ use Rattle.plan_ratios.specs.declared.RatiosError.{RatiosError}
 use Rattle.plan_ratios.specs.declared.RatiosError.TheVariants.{NotARatio, TooMany, TooFew}
 use Rattle.plan_ratios.specs.declared.Slots.{Slots}
 use Rattle.plan_ratios.specs.Ratio.{ratio_of}
-use Rattle.plan_ratios.specs.Tokens.{filled, line_tokens, Token, on_line, numbered, tokens_from}
+use Rattle.plan_ratios.specs.Tokens.{Token, tokens_from}
 use Rattle.plan_ratios.specs.Ratios.{wanted, empty, accepted, answered, ratios_of}
 use Rattle.plan_ratios.specs.Walk.{Filled, got, Passed, Refused}
 use Rattle.plan_ratios.proofs.AnswerLaws.{too_few, enough, too_many, unread, read}
-use Rattle.plan_ratios.proofs.TokenLaws.{filled_append, numbered_append}
 
 -- ---- the slots
 
@@ -126,74 +125,3 @@ module _ (text : List ℕ) (slots : ℕ) where
       text_enough l = over ∙ enough b.wanted lines (got b) (omega (arith, as_many b p.filled))
           ∙ ap (λ (xs : List Float). Ok (record { count = length (got b); ratios = xs })) (whole b p.filled)
           ∙ ap (λ (k : ℕ). Ok (record { count = k; ratios = b.ratios })) (as_many b p.filled)
-
--- ---- a line, by its parts
-
-module _ (n : ℕ) where
-  -- the tokens of parts
-  abbrev pub parts : List (List ℕ) → List Token
-  parts ws = map (on_line n) (filled ws)
-
-  parts_append : (ws us : List (List ℕ)) → parts (ws ++ us) ≡ parts ws ++ parts us
-  parts_append ws us = ap (map (on_line n)) (filled_append ws us) ∙ map-append (on_line n) (filled ws) (filled us)
-
-  module _ (w : List ℕ) where
-    one_part : (length w == 0) ≡ false → parts (w ∷ []) ≡ on_line n w ∷ []
-    one_part = go w
-      where
-        go : (w : List ℕ) → (length w == 0) ≡ false → parts (w ∷ []) ≡ on_line n w ∷ []
-        go [] e = absurd (true≢false e)
-        go (b ∷ bs) e = refl
-
-    some : (n : ℕ) → (suc n == 0) ≡ true → ⊥
-    some n e = let z = eqb-true (suc n) 0 e in omega arith
-
-    no_part : (length w == 0) ≡ true → parts (w ∷ []) ≡ []
-    no_part = go w
-      where
-        go : (w : List ℕ) → (length w == 0) ≡ true → parts (w ∷ []) ≡ []
-        go [] e = refl
-        go (b ∷ bs) e = absurd (some (length bs) e)
-
-    module _ (vs ws : List (List ℕ)) (more : vs ≡ ws ++ w ∷ []) (a b : Slots) (p : Passed (parts ws) a b) where
-      pub part_skipped : (length w == 0) ≡ true → Passed (parts vs) a b
-      part_skipped e = rw (more, parts_append ws (w ∷ []), no_part e, append-nil (parts ws)) p
-
-      pub part_passed : (c : Slots) → (length w == 0) ≡ false → Passed (on_line n w ∷ []) b c → Passed (parts vs) a c
-      part_passed c e q = rw (more, parts_append ws (w ∷ []), one_part e) (then_passed (parts ws) (on_line n w ∷ []) a b p c q)
-
-    module _ (all ws rest : List (List ℕ)) (split : all ≡ (ws ++ w ∷ []) ++ rest) (a b : Slots) (p : Passed (parts ws) a b) where
-      pub part_refused : (e : RatiosError) → (length w == 0) ≡ false → Refused (on_line n w ∷ []) b e → Refused (parts all) a e
-      part_refused e z q =
-          rw (split, parts_append (ws ++ w ∷ []) rest, parts_append ws (w ∷ []), one_part z)
-          (front_refused (parts ws ++ on_line n w ∷ []) (parts rest) a e (then_refused (parts ws) (on_line n w ∷ []) a b p e q))
-
--- ---- a text, by its lines
-
-module _ (l : List ℕ) (n : ℕ) where
-  abbrev line : List Token
-  line = map (on_line n) (line_tokens l)
-
-  one_line : (ls : List (List ℕ)) → n ≡ length ls + 1 → numbered 1 (ls ++ l ∷ []) ≡ numbered 1 ls ++ line
-  one_line ls e =
-      let k : 1 + length ls ≡ n = omega arith in
-      numbered_append 1 ls (l ∷ []) ∙ rw (k, append-nil line) refl
-
-  module _ (ls : List (List ℕ)) (e : n ≡ length ls + 1) (a b : Slots) (p : Passed (numbered 1 ls) a b) where
-    pub line_passed : (ks : List (List ℕ)) → ks ≡ ls ++ l ∷ [] → (c : Slots) → Passed line b c → Passed (numbered 1 ks) a c
-    line_passed ks more c q = rw (more, one_line ls e) (then_passed (numbered 1 ls) line a b p c q)
-
-    pub line_refused : (all rest : List (List ℕ)) → all ≡ (ls ++ l ∷ []) ++ rest → (r : RatiosError) → Refused line b r → Refused (numbered 1 all) a r
-    line_refused all rest split r q =
-        rw (split, numbered_append 1 (ls ++ l ∷ []) rest, one_line ls e)
-        (front_refused (numbered 1 ls ++ line) (numbered (1 + length (ls ++ l ∷ [])) rest) a r
-        (then_refused (numbered 1 ls) line a b p r q))
-
--- ---- a line with nothing on it
-
-pub empty_line : (ls ks : List (List ℕ)) (l : List ℕ) (a b : Slots) → Passed (numbered 1 ls) a b → length l ≡ 0 → ks ≡ ls ++ l ∷ [] → Passed (numbered 1 ks) a b
-empty_line ls ks l a b p e more = rw (more, numbered_append 1 ls (l ∷ [])) (go l e)
-  where
-    go : (l : List ℕ) → length l ≡ 0 → Passed (numbered 1 ls ++ numbered (1 + length ls) (l ∷ [])) a b
-    go [] e = rw (append-nil (numbered 1 ls)) p
-    go (x ∷ xs) e = absurd (omega arith)

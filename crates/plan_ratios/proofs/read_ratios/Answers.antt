@@ -1,63 +1,78 @@
 -- `plan_ratios::read_ratios` meets its contract.
-use Rattle.std.proofs.Common.{◌≡◌, ◌+◌, ℕ, length, sym, refl, ap, ◌∙◌, arith, rules, tests, eqb-true}
+use Rattle.std.proofs.Common.{◌≡◌, ℕ, length, sym, refl, ap, ◌∙◌, arith}
 use lib.Ieee.{of_bits}
 use Rattle.std.specs.Prelude.{Err}
-use Rattle.std.proofs.lemmas.List.{map-append, length-map}
 use Rattle.std.proofs.lemmas.Result.{err_from_is_err_and}
-use Rattle.plan_text.specs.Lines.{ends_line}
+use Rattle.plan_ratios.specs.declared.Slots.{Slots}
 use Rattle.plan_ratios.specs.declared.RatiosError.TheVariants.{TooFew}
-use Rattle.plan_ratios.specs.Tokens.{numbered, tokens_from}
 use Rattle.plan_ratios.specs.Ratios.{empty}
-use Rattle.plan_ratios.proofs.TokenLaws.{text_parts}
-use Rattle.plan_text.proofs.SplitLaws.{line_texts, its_place, its_turn, lines_end}
-use Rattle.plan_ratios.proofs.WalkLaws.{none_passed, none_filled, line_passed, line_refused, empty_line, text_refused, text_few, text_enough}
+use Rattle.plan_ratios.specs.Tokens.{tokens_from}
+use Rattle.plan_ratios.specs.Walk.{Passed}
+use Rattle.plan_ratios.proofs.PartLaws.{Met, At, token_here, at_front, one_more, passed_by, part_taken, part_refused, feed_met, other_met, none_left, last_taken, last_refused}
+use Rattle.plan_ratios.proofs.WalkLaws.{none_filled, text_refused, text_few, text_enough}
 use Rattle.plan_ratios.proofs.read_ratios.Goals as goal
-use Rattle.plan_ratios.proofs.read_ratios.Goals.{In-Some, In-None}
+use Rattle.plan_ratios.proofs.read_ratios.Goals.{then-is_end, then-start-at+in_ok-take, else-start-at, then-byte-eq10, else-byte-eq10, else-is_end, Joined-start-text, then-start-text+in_ok-take-2, else-start-text}
 
--- the line of this turn is numbered as it stands in the text
-place : (c : In-Some) → c.in-Some.index + 1 ≡ length (line_texts c.loop-index.yielded) + 1
-place c =
-    let at = its_place ends_line c.args.text.now _ _ c.loop-index.yielded c.loop-index.yielded_by
-    (record { rest = cc; done = cc; test = λ x b q k. search (rules, tests) }) (cc) _ _ c.next.ensures.steps _ c.in-Some.is in
-    omega (arith, at, length-map c.loop-index.yielded (λ x. x.1.now))
-
--- behind the last line all tokens are taken
-all_lines : (c : In-None) → numbered 1 (line_texts c.loop-index.yielded) ≡ tokens_from 1 c.args.text.now
-all_lines c =
-    let all = lines_end ends_line c.args.text.now _ _ c.loop-index.yielded c.loop-index.yielded_by
-    (record { rest = cc; done = cc; test = λ x b q k. search (rules, tests) }) (cc) _ _ c.next.ensures.steps c.in-None.is in
-    ap (numbered 1) all ∙ text_parts 1 c.args.text.now
-
-pub loop-index-init : goal.loop-index-init
+pub loop-at-init : goal.loop-at-init
 unfolding empty of_bits
-loop-index-init c = none_passed _ (none_filled c.args.slots _ refl refl c.min.ensures)
+loop-at-init c = at_front _ _ (none_filled c.args.slots _ refl refl c.min.ensures)
 
-pub loop-index-preserved-in-Continue-1 : goal.loop-index-preserved-in-Continue-1
-loop-index-preserved-in-Continue-1 c =
-    line_passed c.in-Some.line.now _ _ (place (goal.at.loop-index-preserved-in-Continue-1 c).In-Some) _ _ c.loop-index.invariant _
-    (map-append (λ x. x.1.now) c.loop-index.yielded _) _ c.in_ok-take_line.ensures
-
-pub loop-index-preserved : goal.loop-index-preserved
-loop-index-preserved c =
-    empty_line _ _ c.in-Some.line.now _ _ c.loop-index.invariant (eqb-true _ 0 (sym c.is_empty.ensures ∙ c.if-not-is_empty.false))
-    (map-append (λ x. x.1.now) c.loop-index.yielded _)
-
-pub returns-in_err-take_line : goal.returns-in_err-take_line
-returns-in_err-take_line c =
-    let turn = its_turn ends_line c.args.text.now _ _ c.loop-index.yielded c.loop-index.yielded_by
-    (record { rest = cc; done = cc; test = λ x b q k. search (rules, tests) }) (cc) _ _ c.next.ensures.steps _ c.in-Some.is in
-    let refused = line_refused c.in-Some.line.now _ _ (place (goal.at.returns-in_err-take_line c).In-Some) _ _ c.loop-index.invariant _ turn.0 turn.1 _
-    c.in_err-take_line.ensures in
+pub returns-in_err-take : goal.returns-in_err-take
+returns-in_err-take c =
+    let refused = part_refused _ _ _ _ _ _ _ c.loop-at.invariant c.loop-at-test.true (token_here _ _ _ c.if-start-at.true).1 (sym c.is_end.ensures ∙ c.if-is_end.true) (token_here _ _ _ c.if-start-at.true).0 _ c.in_err-take.ensures in
     let p = err_from_is_err_and c.from_residual.result c.from_residual.ensures.1 in
-    rw (p.1, p.2) (sym (text_refused c.args.text.now c.args.slots _ _ (text_parts 1 c.args.text.now) refl c.min.ensures _ refused))
+    rw (p.1, p.2) (sym (text_refused c.args.text.now c.args.slots _ _ refl refl c.min.ensures _ refused))
+
+pub overflow_add-line : goal.overflow_add-line
+overflow_add-line c = record { fits = omega (arith, c.loop-at.invariant.few, c.loop-at-test.true) }
+
+pub loop-at-preserved : goal.loop-at-preserved
+loop-at-preserved c =
+    let m = c.loop-at.invariant in
+    elim c.if-is_end.branch [
+      | then-is_end w ↦
+          let e = sym c.is_end.ensures ∙ w.if-is_end.true in
+          let a : At c.args.text.now _ c.loop-at.line c.loop-at.comment c.loop-at.at w.if-start-at.read =
+          elim w.if-start-at.branch [
+            | then-start-at+in_ok-take v ↦
+                rw (v.read-is) (part_taken _ _ _ _ _ _ _ m c.loop-at-test.true (token_here _ _ _ v.if-start-at.true).1 e (token_here _ _ _ v.if-start-at.true).0 _ v.in_ok-take.ensures)
+            | else-start-at v ↦ rw (v.read-is) (passed_by _ _ _ _ _ _ _ m c.loop-at-test.true e v.if-start-at.false)
+          ] in
+          elim w.if-byte-eq10.branch [
+            | then-byte-eq10 v ↦
+                rw (w.read-is, w.line-is, w.comment-is, w.start-is, v.line-is, v.comment-is)
+                (feed_met _ _ _ _ _ _ a c.loop-at-test.true m.few v.if-byte-eq10.true)
+            | else-byte-eq10 v ↦
+                rw (w.read-is, w.line-is, w.comment-is, w.start-is, v.line-is, v.comment-is)
+                (other_met _ _ _ _ _ _ a c.loop-at-test.true m.few _ v.if-byte-eq10.false e refl)
+          ]
+      | else-is_end w ↦
+          rw (w.read-is, w.line-is, w.comment-is, w.start-is)
+          (one_more _ _ _ _ _ _ _ m c.loop-at-test.true (sym c.is_end.ensures ∙ w.if-is_end.false))
+    ]
+
+pub returns-in_err-take-2 : goal.returns-in_err-take-2
+returns-in_err-take-2 c =
+    let refused = last_refused _ _ _ _ _ _ _ c.loop-at.invariant (omega (arith, c.loop-at-test.false, c.loop-at.auto.at-end)) (token_here _ _ _ c.if-start-text.true).1 (token_here _ _ _ c.if-start-text.true).0 _ refl _
+    c.in_err-take-2.ensures in
+    let p = err_from_is_err_and c.from_residual-in_err-take-2.result c.from_residual-in_err-take-2.ensures.1 in
+    rw (p.1, p.2) (sym (text_refused c.args.text.now c.args.slots _ _ refl refl c.min.ensures _ refused))
+
+-- all tokens are taken
+taken : (c : Joined-start-text) (a : Slots) → Met c.args.text.now a c.loop-at.line c.loop-at.comment c.loop-at.start c.loop-at.at c.loop-at.read
+    → Passed (tokens_from 1 c.args.text.now) a c.if-start-text.read
+taken c a m =
+    let e : c.loop-at.at ≡ length c.args.text.now = omega (arith, c.loop-at-test.false, c.loop-at.auto.at-end) in
+    elim c.if-start-text.branch [
+      | then-start-text+in_ok-take-2 v ↦
+          rw (v.read-is) (last_taken _ _ _ _ _ _ _ m e (token_here _ _ _ v.if-start-text.true).1 (token_here _ _ _ v.if-start-text.true).0 _ refl _ v.in_ok-take-2.ensures)
+      | else-start-text v ↦ rw (v.read-is) (none_left _ _ _ _ _ _ _ m e v.if-start-text.false)
+    ]
 
 pub returns-then-read : goal.returns-then-read
 returns-then-read c =
-    let all = all_lines (goal.at.returns-then-read c).In-None in
-    ap (λ (n : ℕ). Err (TooFew n c.loop-index.read.count)) c.count_lines-line.ensures
-    ∙ sym (text_few c.args.text.now c.args.slots _ _ all refl c.min.ensures _ c.loop-index.invariant c.if-read.true)
+    ap (λ (n : ℕ). Err (TooFew n c.if-start-text.read.count)) c.count_lines-line.ensures
+    ∙ sym (text_few c.args.text.now c.args.slots _ _ refl refl c.min.ensures _ (taken (goal.at.returns-then-read c).Joined-start-text _ c.loop-at.invariant) c.if-read.true)
 
 pub returns : goal.returns
-returns c =
-    let all = all_lines (goal.at.returns c).In-None in
-    sym (text_enough c.args.text.now c.args.slots _ _ all refl c.min.ensures _ c.loop-index.invariant c.if-read.false)
+returns c = sym (text_enough c.args.text.now c.args.slots _ _ refl refl c.min.ensures _ (taken (goal.at.returns c).Joined-start-text _ c.loop-at.invariant) c.if-read.false)

@@ -1,7 +1,5 @@
-use Rattle.plan_ratios.specs.Tokens.{numbered}
-use Rattle.plan_ratios.specs.Walk.{Passed}
-use Rattle.plan_text.proofs.SplitLaws.{line_texts}
+use Rattle.plan_ratios.proofs.PartLaws.{Met}
 use Rattle.plan_ratios.proofs.read_ratios.Given as goal
 
-abbrev pub invariant-loop-index : goal.invariant-loop-index
-invariant-loop-index l = Passed (numbered 1 (line_texts l.yielded)) l.initial.read l.read
+abbrev pub invariant-loop-at : goal.invariant-loop-at
+invariant-loop-at l = Met l.text l.initial.read l.line l.comment l.start l.at l.read
