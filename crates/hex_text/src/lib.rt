@@ -32,9 +32,7 @@ pub fn read_hex(text: &[u8], bytes: &mut [u8]) -> Result<usize, HexError>
         last: 0,
     };
     for (index, text) in text.split(|b| *b == b'\n').enumerate() {
-        if !text.is_empty() {
-            digits = read_line(text, index as u64 + 1, digits, bytes)?;
-        }
+        digits = read_line(text, index as u64 + 1, digits, bytes)?;
     }
     finished(digits)
 }
@@ -48,10 +46,8 @@ fn read_line(text: &[u8], line: u64, before: Digits, bytes: &mut [u8]) -> Result
     ensures read { LineRead text.now line before bytes.old bytes.new result }
 {
     let mut digits = before;
-    for (index, &byte) in text.iter().enumerate() {
-        if byte == plan_text::HASH {
-            return Ok(digits);
-        }
+    let end = plan_text::find_byte(text, 0, plan_text::HASH);
+    for (index, &byte) in text[..end].iter().enumerate() {
         if !plan_text::is_blank(byte) {
             let column = index as u64 + 1;
             let Some(digit) = worth(byte) else {

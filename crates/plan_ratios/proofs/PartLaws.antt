@@ -159,22 +159,26 @@ module _ (text : List ℕ) (old : Slots) where
     pub feed_met : byte ≡ 10 → Met (n + 1) false (k + 1) (k + 1) s
     feed_met e = begun (n + 1) false (k + 1) s (moved (n + 1) false (at_feed comment n byte behind (rw e refl))) (omega (arith, few))
 
-    pub other_met : (c : Bool) → (byte ≡ 10 → ⊥) → is_end byte ≡ true → c ≡ (comment || is_hash byte) → Met n c (k + 1) (k + 1) s
-    other_met c f e g = go comment (is_hash byte) refl refl
-      where
-        no : ends_line byte ≡ false
-        no = ne_eqb byte 10 f
+    module _ (f : byte ≡ 10 → ⊥) where
+      no : ends_line byte ≡ false
+      no = ne_eqb byte 10 f
 
-        met : (c' : Bool) → c ≡ c' → ahead comment n (byte ∷ behind) ≡ ahead c' n behind → Met n c (k + 1) (k + 1) s
-        met c' i j = rw i (begun n c' (k + 1) s (moved n c' j) (omega (arith, few)))
+      pub hash_met : byte ≡ 35 → Met n true (k + 1) (k + 1) s
+      hash_met e = begun n true (k + 1) s (moved n true (go comment)) (omega (arith, few))
+        where
+          go : (x : Bool) → ahead x n (byte ∷ behind) ≡ ahead true n behind
+          go true = in_comment n byte behind no
+          go false = at_hash n byte behind no (rw e refl)
 
-        go : (x y : Bool) → comment ≡ x → is_hash byte ≡ y → Met n c (k + 1) (k + 1) s
-        go true y i j = met true (g ∙ rw i refl) (rw i (in_comment n byte behind no))
-        go false true i j = met true (g ∙ rw (i, j) refl) (rw i (at_hash n byte behind no j))
-        go false false i j = met false (g ∙ rw (i, j) refl) (rw i (at_blank n byte behind no j (blank (subst (λ (x : Bool). x || is_hash byte || is_blank byte ≡ true) no e) j)))
-          where
-            blank : false || is_hash byte || is_blank byte ≡ true → is_hash byte ≡ false → is_blank byte ≡ true
-            blank e j = subst (λ (x : Bool). x || is_blank byte ≡ true) j e
+      pub blank_met : (byte ≡ 35 → ⊥) → is_end byte ≡ true → Met n comment (k + 1) (k + 1) s
+      blank_met g e = begun n comment (k + 1) s (moved n comment (go comment)) (omega (arith, few))
+        where
+          blank : is_blank byte ≡ true
+          blank = subst (λ (x : Bool). x || is_blank byte ≡ true) (ne_eqb byte 35 g) (subst (λ (x : Bool). x || is_hash byte || is_blank byte ≡ true) no e)
+
+          go : (x : Bool) → ahead x n (byte ∷ behind) ≡ ahead x n behind
+          go true = in_comment n byte behind no
+          go false = at_blank n byte behind no (ne_eqb byte 35 g) blank
 
   module _ (n : ℕ) (comment : Bool) (start k : ℕ) (s : Slots) (w : Met n comment start k s) where
     module _ (h : k < length text) where

@@ -121,8 +121,8 @@ pub fn read_ratios(text: &[u8], slots: usize) -> Result<Ratios, RatiosError>
             if byte == b'\n' {
                 line += 1;
                 comment = false;
-            } else {
-                comment |= byte == plan_text::HASH;
+            } else if byte == plan_text::HASH {
+                comment = true;
             }
             start = at + 1;
         }

@@ -1,12 +1,11 @@
 -- `hex_text::read_hex` meets its contract.
-use Rattle.std.proofs.Common.{◌≡◌, ◌+◌, ◌++◌, ◌∷◌, [], ℕ, List, length, sym, subst, refl, ◌∙◌, eqb-true, arith, rules, tests}
+use Rattle.std.proofs.Common.{◌≡◌, ◌+◌, ◌++◌, ◌∷◌, [], ℕ, List, length, sym, subst, arith, rules, tests}
 use Rattle.std.specs.List.{slice_split}
 use Rattle.std.proofs.lemmas.List.{map-append, length-map}
 use Rattle.std.proofs.lemmas.Result.{err_from_is_err_and}
 use Rattle.plan_text.specs.Lines.{ends_line}
 use Rattle.hex_text.specs.Hex.{HexIs}
 use Rattle.plan_text.proofs.SplitLaws.{line_texts, its_place, its_turn, lines_end}
-use Rattle.hex_text.proofs.LineLaws.{empty_line}
 use Rattle.hex_text.proofs.WalkLaws.{at_first, line_one, line_room, line_refused, line_passed, at_end}
 use Rattle.hex_text.proofs.read_hex.Goals as goal
 use Rattle.hex_text.proofs.read_hex.Goals.{In-Some}
@@ -45,18 +44,12 @@ returns-in_err-digits c =
     let p = err_from_is_err_and c.from_residual.result c.from_residual.ensures.1 in
     rw (p.1, p.2) (line_refused _ _ _ _ _ w _ t.0 t.1 _ c.in_err-digits.field-0.0 (c.in_err-digits.ensures.read _ _ (place i) w.held))
 
-pub loop-index-preserved-then-not-is_empty : goal.loop-index-preserved-then-not-is_empty
-loop-index-preserved-then-not-is_empty c =
-    let w = c.loop-index.invariant in
-    let passed = line_passed _ _ _ _ _ w c.in-Some.text.now _ _ c.in_ok-digits.ensures.long
-    (c.in_ok-digits.ensures.read _ _ (place (goal.at.loop-index-preserved-then-not-is_empty c).In-Some) w.held) in
-    rw (map-append (λ x. x.1.now) c.loop-index.yielded ((c.in-Some.index, c.in-Some.text) ∷ [])) passed
-
 pub loop-index-preserved : goal.loop-index-preserved
 loop-index-preserved c =
     let w = c.loop-index.invariant in
-    let none = empty_line c.in-Some.text.now _ _ _ _ (eqb-true _ 0 (sym c.is_empty.ensures ∙ c.if-not-is_empty.false)) w.held w.small in
-    rw (map-append (λ x. x.1.now) c.loop-index.yielded ((c.in-Some.index, c.in-Some.text) ∷ [])) (line_passed _ _ _ _ _ w c.in-Some.text.now _ _ refl none)
+    let passed = line_passed _ _ _ _ _ w c.in-Some.text.now _ _ c.in_ok-digits.ensures.long
+    (c.in_ok-digits.ensures.read _ _ (place (goal.at.loop-index-preserved c).In-Some) w.held) in
+    rw (map-append (λ x. x.1.now) c.loop-index.yielded ((c.in-Some.index, c.in-Some.text) ∷ [])) passed
 
 pub returns : goal.returns
 returns c =

@@ -8,10 +8,10 @@ use Rattle.plan_ratios.specs.declared.RatiosError.TheVariants.{TooFew}
 use Rattle.plan_ratios.specs.Ratios.{empty}
 use Rattle.plan_ratios.specs.Tokens.{tokens_from}
 use Rattle.plan_ratios.specs.Walk.{Passed}
-use Rattle.plan_ratios.proofs.PartLaws.{Met, At, token_here, at_front, one_more, passed_by, part_taken, part_refused, feed_met, other_met, none_left, last_taken, last_refused}
+use Rattle.plan_ratios.proofs.PartLaws.{Met, At, token_here, at_front, one_more, passed_by, part_taken, part_refused, feed_met, hash_met, blank_met, none_left, last_taken, last_refused}
 use Rattle.plan_ratios.proofs.WalkLaws.{none_filled, text_refused, text_few, text_enough}
 use Rattle.plan_ratios.proofs.read_ratios.Goals as goal
-use Rattle.plan_ratios.proofs.read_ratios.Goals.{then-is_end, then-start-at+in_ok-take, else-start-at, then-byte-eq10, else-byte-eq10, else-is_end, Joined-start-text, then-start-text+in_ok-take-2, else-start-text}
+use Rattle.plan_ratios.proofs.read_ratios.Goals.{then-is_end, then-start-at+in_ok-take, else-start-at, then-byte-eq10, else-byte-eq10+then-byte-eq-HASH, else-byte-eq10+else-byte-eq-HASH, else-is_end, Joined-start-text, then-start-text+in_ok-take-2, else-start-text}
 
 pub loop-at-init : goal.loop-at-init
 unfolding empty of_bits
@@ -42,9 +42,12 @@ loop-at-preserved c =
             | then-byte-eq10 v ↦
                 rw (w.read-is, w.line-is, w.comment-is, w.start-is, v.line-is, v.comment-is)
                 (feed_met _ _ _ _ _ _ a c.loop-at-test.true m.few v.if-byte-eq10.true)
-            | else-byte-eq10 v ↦
+            | else-byte-eq10+then-byte-eq-HASH v ↦
                 rw (w.read-is, w.line-is, w.comment-is, w.start-is, v.line-is, v.comment-is)
-                (other_met _ _ _ _ _ _ a c.loop-at-test.true m.few _ v.if-byte-eq10.false e refl)
+                (hash_met _ _ _ _ _ _ a c.loop-at-test.true m.few v.if-byte-eq10.false v.if-byte-eq-HASH.true)
+            | else-byte-eq10+else-byte-eq-HASH v ↦
+                rw (w.read-is, w.line-is, w.comment-is, w.start-is, v.line-is, v.comment-is)
+                (blank_met _ _ _ _ _ _ a c.loop-at-test.true m.few v.if-byte-eq10.false v.if-byte-eq-HASH.false e)
           ]
       | else-is_end w ↦
           rw (w.read-is, w.line-is, w.comment-is, w.start-is)
