@@ -28,6 +28,15 @@ module _ (a : ActiveSlots) where
   pub listed_few : length (listed a) ≤ 60
   listed_few = rw listed_long a.within.few
 
+  pub listed_at : (k : ℕ) → k < a.count → get_or a.slots k 0 ≡ get_or (listed a) k 0
+  listed_at k h = sym (get_or-take a.count a.slots k 0 h)
+
+  pub listed_here : (k : ℕ) → k < a.count → k < length (listed a)
+  listed_here k h = rw listed_long h
+
+  pub listed_over : (k : ℕ) → a.count ≤ k → length (listed a) ≤ k
+  listed_over k h = rw listed_long h
+
 -- ---- as they are gathered
 
 pub zeros_below : (j : ℕ) → get_or (replicate 64 0) j 0 < 64

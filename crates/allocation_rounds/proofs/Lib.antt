@@ -4,6 +4,7 @@ pub mod Scan
 pub mod Ending
 pub mod OnTheWay
 pub mod Exchange
+pub mod Tests
 pub mod Answers
 pub mod Floats
 pub mod Agree

@@ -81,6 +81,9 @@ one_more v room xs f p a d small s h e b g q r l = go (ℕ_discrete (16 * g + q)
     go (no i) = get_or-set_other xs (16 * f + p) (16 * g + q) a d (λ j. i j) ∙ b g q r (omega arith)
 
 module _ (es : List Entry) (room : (g : ℕ) → length (entry_in es g).row ≤ 16) (f : ℕ) (mnrs : List Float) (charges : List ℕ) where
+  pub field_begun : LaidOut es (16 * f) mnrs charges → LaidOut es (16 * f + 0) mnrs charges
+  field_begun = subst (λ (n : ℕ). LaidOut es n mnrs charges) (let z : 16 * f ≡ 16 * f + 0 = omega arith in z)
+
   pub one_more_laid : (p : ℕ) (r : Float) (n : ℕ) → LaidOut es (16 * f + p) mnrs charges → p < 16 → f < 64
       → r ≡ mnr_at (entry_in es f) p → n ≡ charge_at (entry_in es f) p
       → LaidOut es (16 * f + (p + 1)) (set mnrs (16 * f + p) r) (set charges (16 * f + p) n)
@@ -123,6 +126,9 @@ module _ (l : Layout) (smr : List (List Float)) (costs : List ℕ) (f : ℕ) (x 
 
   at_field : entry_in es f ≡ entry_of l.table smr x first
   at_field = entry_at l smr costs f begun.there ∙ ap₂ (entry_of l.table smr) (sym begun.is.whole) (sym begun.cost)
+
+  pub begin : LaidOut es (16 * f) mnrs charges → LaidOut es (16 * f + 0) mnrs charges
+  begin = field_begun es (room l smr costs) f mnrs charges
 
   pub go_on : (p : ℕ) (r : Float) (n : ℕ) → LaidOut es (16 * f + p) mnrs charges → p < 16
       → r ≡ mnr_of (smrs_of smr x) (get_or row p 0) → n ≡ charge (get_or row p 0) first

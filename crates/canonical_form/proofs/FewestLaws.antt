@@ -1,5 +1,5 @@
 -- The scfsi that sends the fewest indices: it carries the three, and every other that does sends more. One test over the four values, whichever neighbours agree.
-use mathlib.Core.Path.{◌≡◌, refl, sym, ap, ◌∙◌, subst}
+use mathlib.Core.Path.{◌≡◌, refl, sym, ap, ap₂, ◌∙◌, subst}
 use mathlib.Core.Bool.{Bool, true, false, not, ◌&&◌, ◌||◌, true≢false}
 use mathlib.Core.Logic.{◌⊎◌, inl, inr}
 use Prim.Native.Nat.{◌≤◌, ◌<◌}
@@ -110,3 +110,7 @@ module _ (t : Three) where
     least = fewest_least;
     only = fewest_only;
   })
+
+  -- by which neighbours agree
+  pub fewest_by_lem : (p q : Bool) → firsts t ≡ p → lasts t ≡ q → FewestIs t (fewest_by p q)
+  fewest_by_lem p q e f = fewest_is (fewest_by p q) (sym (ap₂ fewest_by e f))

@@ -1,5 +1,5 @@
 -- What `demand_bits` finds on its way is the definition's: the steps that a ratio needs, a field's bits, a subband's row, a field's demand, the answer.
-use Rattle.std.specs.Prelude.{Ok, Err}
+use Rattle.std.specs.Prelude.{Result, Ok, Err}
 use mathlib.Core.Path.{◌≡◌, refl, sym, ap, ap₂, ◌∙◌}
 use mathlib.Core.Bool.{Bool, true, false, cond}
 use mathlib.Core.List.{List, [], ◌∷◌}
@@ -27,7 +27,7 @@ use Rattle.layout.specs.declared.AllocationField.{AllocationField}
 use Rattle.encoder_bit_budget.specs.declared.FixedBitBudget.{FixedBitBudget}
 use Rattle.encoder_bit_budget.specs.declared.BitAllocError.{BitAllocError}
 use Rattle.encoder_bit_budget.proofs.BudgetLaws.{apart}
-use Rattle.encoder_bit_budget.specs.Budget.{plain, budget_in, budget_of, layout_in}
+use Rattle.encoder_bit_budget.specs.Budget.{BudgetAnswer, plain, budget_in, budget_of, layout_in}
 use Rattle.encoder_bit_demand.specs.Snr.{snr}
 use Rattle.encoder_bit_demand.specs.Demand.{needed_steps, needed_bits, or_top, smr_at, smrs_of, largest_smr, layout_demand, demand_of, FirstStepIs, DemandIs, demand_by, demand_in}
 use Rattle.encoder_bit_demand.specs.OnTheWay.{NeededIs, FieldDemandIs, LayoutDemandIs}
@@ -155,22 +155,33 @@ field_demand_lem t smr x first r row s e m f n = record {
 
 -- ---- the answers
 
-module _ (h : FrameHeader) (smr : List (List Float)) where
-  refused_whole : (e : BitAllocError) → demand_in (Err e) ≡ demand_by smr (budget_in (Err e))
-  refused_whole e = rw (apart e)
+-- what is demanded under a budget's answer
+pub record DemandInIs (a : BudgetAnswer) (smr : List (List Float)) (r : Result ℕ BitAllocError) : Type 0 where
+  pub whole : demand_in r ≡ demand_by smr a
+  pub small : (demand_in r).bits ≤ 60 * 616
 
+pub refused_in : (smr : List (List Float)) (e : BitAllocError) → DemandInIs (budget_in (Err e)) smr (Err e)
+refused_in smr e = record { whole = rw (apart e); small = lit≤ tt }
+
+pub accepted_in : (smr : List (List Float)) (b : FixedBitBudget) (l : Layout) (bits : ℕ) → l ≡ layout_in b → LayoutDemandIs l smr bits
+    → DemandInIs (budget_in (Ok b)) smr (Ok bits)
+accepted_in smr b l bits e d = record {
+  whole = ap (λ (n : ℕ). record { answer = 0; bits = n }) (d.whole ∙ ap (λ (l : Layout). layout_demand l smr) e);
+  small = d.most;
+}
+
+-- the demand under the budget of a header
+pub demand_is : (h : FrameHeader) (smr : List (List Float)) (a : BudgetAnswer) (r : Result ℕ BitAllocError) → a ≡ budget_of (plain h 0) → DemandInIs a smr r
+    → DemandIs h smr r
+unfolding demand_of
+demand_is h smr a r p d = record { whole = d.whole ∙ ap (demand_by smr) p; small = d.small }
+
+module _ (h : FrameHeader) (smr : List (List Float)) where
   -- a refused budget's answer is that of the demand
   pub demand_refused : (e : BitAllocError) → budget_in (Err e) ≡ budget_of (plain h 0) → DemandIs h smr (Err e)
-  unfolding demand_of
-  demand_refused e p = record { whole = refused_whole e ∙ ap (demand_by smr) p; small = lit≤ tt }
+  demand_refused e p = demand_is h smr (budget_in (Err e)) (Err e) p (refused_in smr e)
 
   -- and what is demanded under an accepted one
   pub demand_met : (b : FixedBitBudget) (l : Layout) (bits : ℕ) → budget_in (Ok b) ≡ budget_of (plain h 0) → l ≡ layout_in b
       → LayoutDemandIs l smr bits → DemandIs h smr (Ok bits)
-  unfolding demand_of
-  demand_met b l bits p e d = record {
-    whole =
-        ap (λ (n : ℕ). record { answer = 0; bits = n }) (d.whole ∙ ap (λ (l : Layout). layout_demand l smr) e)
-        ∙ ap (demand_by smr) p;
-    small = d.most;
-  }
+  demand_met b l bits p e d = demand_is h smr (budget_in (Ok b)) (Ok bits) p (accepted_in smr b l bits e d)

@@ -1,9 +1,14 @@
 -- The codewords of three codes. The number of three digits is worked out one digit after the other and cut to 32 bits each time.
-use Rattle.std.proofs.Common.{◌≡◌, ℕ, ◌+◌, ◌*◌, ◌/◌, ◌%◌, ◌^◌, Bool, true, false, cond, List, get_or, sym, ap, ◌∙◌, arith}
+use Rattle.std.proofs.Common.{◌≡◌, ℕ, ◌+◌, ◌-◌, ◌*◌, ◌/◌, ◌%◌, ◌^◌, ◌<◌, Bool, true, false, cond, List, get_or, sym, ap, ◌∙◌, mul-le-mul, arith}
 use native.Mathlib.Nat.{mod-add-div, add-mul-mod_self_left}
 use lib.Ieee.{Float, nan}
 use Rattle.quantization.specs.declared.QuantClass.{QuantClass}
 use Rattle.encoder_samples.specs.Samples.{quantized, combined, one_codeword, three_codewords, triplet}
+
+-- a product of two 32-bit numbers and one more fit 64 bits
+pub digit_fits : (a b d : ℕ) → a < 2 ^ 32 → b < 2 ^ 32 → d < 2 ^ 32 → a * b + d < 2 ^ 64
+digit_fits a b d A B D =
+    omega (arith, mul-le-mul {n₁ = a} {m₁ = b} {n₂ = 2 ^ 32 - 1} {m₂ = 2 ^ 32 - 1} (omega arith) (omega arith))
 
 -- what is cut off before the next digit is added would be cut off after
 cut_once : (m s a x : ℕ) → (x % m * s + a) % m ≡ (x * s + a) % m
