@@ -1,5 +1,5 @@
 // What a program answers, and how it is written, line by line.
-ghost use Rattle.std.specs.Prelude.{◌≡◌, ℕ, List, take, IsOk, OnOk};
+ghost use Rattle.std.specs.Prelude.{◌≡◌, ℕ, List, [], take, get_or, IsOk, OnOk};
 ghost use Rattle.std.specs.Io.KnownBytes.{Appends};
 ghost use Rattle.text_line.specs.Line.{text_of, fed};
 ghost use Rattle.text_line.specs.Page.{LineAt};
@@ -62,19 +62,45 @@ pub fn write_answer<A: Answer, W: Write>(
 {
     for n in 0..usize::MAX {
         match answer.line(words, input, n) {
-            Some(line) => write_line(line, out, outcome),
+            Some(line) => write_line::<A, W>(words, input, n, line, out, outcome),
             None => return n,
         }
     }
     usize::MAX
 }
 
-// Writes a line, with its line feed. Where that fails, `outcome` is the error.
-fn write_line<W: Write>(line: Line, out: &mut W, outcome: &mut io::Result<()>)
+// Writes the line of a number of the answer to the words and the input, with its line feed. Where that fails, `outcome` is the error.
+// Kept: words, input and number stand beside the line for the `requires` alone, as in `write_text`.
+fn write_line<A: Answer, W: Write>(
+    words: &[u8],
+    input: &[u8],
+    n: usize,
+    line: Line,
+    out: &mut W,
+    outcome: &mut io::Result<()>,
+)
+    requires { LineAt (A.page words.now input.now) n (Some line) }
     ensures kept { OnOk outcome.new (IsOk outcome.old) }
     ensures text { OnOk outcome.new (Appends (W.contents out.old) (W.contents out.new) (fed (text_of line))) }
 {
-    if let Err(e) = out.write_all(line.ended().as_bytes()) {
+    let ended = line.ended();
+    let text = ended.as_bytes();
+    if let Err(e) = write_text::<A, W>(words, input, n, text, out) {
         *outcome = Err(e);
     }
+}
+
+// Hands a text to the writer: the line of a number of the answer to the words and the input, which are there for the `requires` alone.
+// Fails where not all of it was taken.
+fn write_text<A: Answer, W: Write>(
+    words: &[u8],
+    input: &[u8],
+    n: usize,
+    text: &[u8],
+    out: &mut W,
+) -> io::Result<()>
+    requires { text.now ≡ fed (get_or (A.page words.now input.now) n []) }
+    ensures { OnOk result (Appends (W.contents out.old) (W.contents out.new) text.now) }
+{
+    out.write_all(text)
 }
