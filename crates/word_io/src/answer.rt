@@ -20,9 +20,27 @@ pub trait Answer {
         ensures { LineAt (page words.now input.now) n result };
 }
 
+// A program that writes what it answers by a function of its own, whose promise names its page.
+pub trait Program: Answer {
+    // Writes the answer line by line, and answers how many there were, as far as 64 bits count.
+    // Where no write failed, what was written is the answer's text.
+    // Kept: words, input, output and outcome are lent for this one call, as `write_answer` takes them.
+    fn write<W: Write>(
+        &self,
+        words: &[u8],
+        input: &[u8],
+        out: &mut W,
+        outcome: &mut io::Result<()>,
+    ) -> usize
+        ensures lines { result ≡ lines_in (Self.page words.now input.now) }
+        ensures kept { OnOk outcome.new (IsOk outcome.old) }
+        ensures text { OnOk outcome.new (Appends (W.contents out.old) (W.contents out.new)
+            (page_text (take result (Self.page words.now input.now)))) };
+}
+
 // Reads, answers and writes, and answers how many lines the answer has. Where reading or writing fails it goes on, and `outcome` is the last error.
 // Kept: `outcome` is lent and there is no `?`, since an error ends nothing here: reading and writing go on behind it.
-pub fn run<A: Answer, R: Env + Input + Print>(
+pub fn run<A: Program, R: Env + Input + Print>(
     answer: &A,
     rt: &R,
     outcome: &mut io::Result<()>,
@@ -35,8 +53,7 @@ pub fn run<A: Answer, R: Env + Input + Print>(
     let size = crate::read_words(rt, crate::word_count(rt), &mut words);
     let mut input = [0u8; word_notes::INPUT_ROOM];
     let count = crate::read_input(rt, &words[..size], &mut input, outcome);
-    write_answer(
-        answer,
+    answer.write(
         &words[..size],
         &input[..count],
         &mut io::writer(rt),
