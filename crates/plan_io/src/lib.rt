@@ -11,7 +11,7 @@ use std::env::Env;
 use std::io;
 use std::io::Write;
 use text_line::Line;
-use word_io::Answer;
+use word_io::{Answer, Program};
 
 struct Planner;
 
@@ -20,6 +20,18 @@ impl Answer for Planner {
 
     fn line(&self, words: &[u8], input: &[u8], n: usize) -> Option<Line> {
         planner::plan_line(words, input, n)
+    }
+}
+
+impl Program for Planner {
+    fn write<W: Write>(
+        &self,
+        words: &[u8],
+        input: &[u8],
+        out: &mut W,
+        outcome: &mut io::Result<()>,
+    ) -> usize {
+        write_plan(words, input, out, outcome)
     }
 }
 

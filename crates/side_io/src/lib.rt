@@ -12,7 +12,7 @@ use std::env::Env;
 use std::io;
 use std::io::Write;
 use text_line::Line;
-use word_io::Answer;
+use word_io::{Answer, Program};
 
 struct SideShow;
 
@@ -21,6 +21,18 @@ impl Answer for SideShow {
 
     fn line(&self, words: &[u8], input: &[u8], n: usize) -> Option<Line> {
         side_show::side_line(words, input, n)
+    }
+}
+
+impl Program for SideShow {
+    fn write<W: Write>(
+        &self,
+        words: &[u8],
+        input: &[u8],
+        out: &mut W,
+        outcome: &mut io::Result<()>,
+    ) -> usize {
+        write_side(words, input, out, outcome)
     }
 }
 

@@ -58,6 +58,10 @@ pub no_text : (a : Option (List ℕ)) → Appends a a (page_text [])
 unfolding page_text
 no_text a = same_text a
 
+-- the line of a number, with its line feed
+pub line_fed : (page : List (List ℕ)) (n : ℕ) (l : Text 256) → LineAt page n (Some l) → fed (text_of l) ≡ fed (get_or page n [])
+line_fed page n l e = ap fed (sym (get_or_from_slice_get page n (text_of l) [] (sym e)))
+
 module _ (page : List (List ℕ)) (a b : Option (List ℕ)) where
   -- the line of a number behind those before it
   pub more_written : (c : Option (List ℕ)) (n : ℕ) (l : Text 256) → LineAt page n (Some l) → Appends a b (page_text (take n page)) → Appends b c (fed (text_of l))
@@ -65,9 +69,8 @@ module _ (page : List (List ℕ)) (a b : Option (List ℕ)) where
   unfolding page_text
   more_written c n l e p q =
       let within = slice_get_within page n _ (sym e) in
-      let line : get_or page n [] ≡ text_of l = get_or_from_slice_get page n (text_of l) [] (sym e) in
       let one : page_text (take 1 (drop n page)) ≡ fed (text_of l) =
-      ap (λ (r : List (List ℕ)). page_text (take 1 r)) (drop-cons page n [] within) ∙ append-nil (fed (get_or page n [])) ∙ ap fed line in
+      ap (λ (r : List (List ℕ)). page_text (take 1 r)) (drop-cons page n [] within) ∙ append-nil (fed (get_or page n [])) ∙ sym (line_fed page n l e) in
       let all : page_text (take (n + 1) page) ≡ page_text (take n page) ++ fed (text_of l) =
       ap page_text (take-add n 1 page) ∙ page_text-append (take n page) (take 1 (drop n page)) ∙ ap (λ (t : List ℕ). page_text (take n page) ++ t) one in
       subst (Appends a c) (sym all) (joined a b c _ _ p q)

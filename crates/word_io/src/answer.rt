@@ -1,5 +1,5 @@
 // What a program answers, and how it is written, line by line.
-ghost use Rattle.std.specs.Prelude.{◌≡◌, ℕ, List, take, IsOk, OnOk};
+ghost use Rattle.std.specs.Prelude.{◌≡◌, ℕ, List, [], take, get_or, IsOk, OnOk};
 ghost use Rattle.std.specs.Io.KnownBytes.{Appends};
 ghost use Rattle.text_line.specs.Line.{text_of, fed};
 ghost use Rattle.text_line.specs.Page.{LineAt};
@@ -20,9 +20,27 @@ pub trait Answer {
         ensures { LineAt (page words.now input.now) n result };
 }
 
+// A program that writes what it answers by a function of its own, whose promise names its page.
+pub trait Program: Answer {
+    // Writes the answer line by line, and answers how many there were, as far as 64 bits count.
+    // Where no write failed, what was written is the answer's text.
+    // Kept: words, input, output and outcome are lent for this one call, as `write_answer` takes them.
+    fn write<W: Write>(
+        &self,
+        words: &[u8],
+        input: &[u8],
+        out: &mut W,
+        outcome: &mut io::Result<()>,
+    ) -> usize
+        ensures lines { result ≡ lines_in (Self.page words.now input.now) }
+        ensures kept { OnOk outcome.new (IsOk outcome.old) }
+        ensures text { OnOk outcome.new (Appends (W.contents out.old) (W.contents out.new)
+            (page_text (take result (Self.page words.now input.now)))) };
+}
+
 // Reads, answers and writes, and answers how many lines the answer has. Where reading or writing fails it goes on, and `outcome` is the last error.
 // Kept: `outcome` is lent and there is no `?`, since an error ends nothing here: reading and writing go on behind it.
-pub fn run<A: Answer, R: Env + Input + Print>(
+pub fn run<A: Program, R: Env + Input + Print>(
     answer: &A,
     rt: &R,
     outcome: &mut io::Result<()>,
@@ -35,8 +53,7 @@ pub fn run<A: Answer, R: Env + Input + Print>(
     let size = crate::read_words(rt, crate::word_count(rt), &mut words);
     let mut input = [0u8; word_notes::INPUT_ROOM];
     let count = crate::read_input(rt, &words[..size], &mut input, outcome);
-    write_answer(
-        answer,
+    answer.write(
         &words[..size],
         &input[..count],
         &mut io::writer(rt),
@@ -62,19 +79,45 @@ pub fn write_answer<A: Answer, W: Write>(
 {
     for n in 0..usize::MAX {
         match answer.line(words, input, n) {
-            Some(line) => write_line(line, out, outcome),
+            Some(line) => write_line::<A, W>(words, input, n, line, out, outcome),
             None => return n,
         }
     }
     usize::MAX
 }
 
-// Writes a line, with its line feed. Where that fails, `outcome` is the error.
-fn write_line<W: Write>(line: Line, out: &mut W, outcome: &mut io::Result<()>)
+// Writes the line of a number of the answer to the words and the input, with its line feed. Where that fails, `outcome` is the error.
+// Kept: words, input and number stand beside the line for the `requires` alone, as in `write_text`.
+fn write_line<A: Answer, W: Write>(
+    words: &[u8],
+    input: &[u8],
+    n: usize,
+    line: Line,
+    out: &mut W,
+    outcome: &mut io::Result<()>,
+)
+    requires { LineAt (A.page words.now input.now) n (Some line) }
     ensures kept { OnOk outcome.new (IsOk outcome.old) }
     ensures text { OnOk outcome.new (Appends (W.contents out.old) (W.contents out.new) (fed (text_of line))) }
 {
-    if let Err(e) = out.write_all(line.ended().as_bytes()) {
+    let ended = line.ended();
+    let text = ended.as_bytes();
+    if let Err(e) = write_text::<A, W>(words, input, n, text, out) {
         *outcome = Err(e);
     }
+}
+
+// Hands a text to the writer: the line of a number of the answer to the words and the input, which are there for the `requires` alone.
+// Fails where not all of it was taken.
+fn write_text<A: Answer, W: Write>(
+    words: &[u8],
+    input: &[u8],
+    n: usize,
+    text: &[u8],
+    out: &mut W,
+) -> io::Result<()>
+    requires { text.now ≡ fed (get_or (A.page words.now input.now) n []) }
+    ensures { OnOk result (Appends (W.contents out.old) (W.contents out.new) text.now) }
+{
+    out.write_all(text)
 }
