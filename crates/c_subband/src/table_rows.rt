@@ -79,10 +79,9 @@ pub fn class_of_quantization(steps: u32, cd: &mut [f64], out: &mut [u32]) -> Res
     room(out.len(), 4)?;
     let class = quantization::class_of_quantization(steps);
     let coefficients = Told::of_option(class.map(c_and_d), NO_CLASS, [0.0; 2]);
-    let figures = Told::of_option(class.map(parts::figures), NO_CLASS, [0; 4]);
     writing::put(&coefficients.value, cd);
-    writing::put(&figures.value, out);
-    Ok(figures.number)
+    writing::put(&parts::figures(class), out);
+    Ok(coefficients.number)
 }
 
 // The coefficients C and D of a class.
