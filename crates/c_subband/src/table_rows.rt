@@ -62,7 +62,6 @@ fn put_found(found: Option<u32>, out: &mut [u32]) -> Result<u32, Refusal>
 }
 
 // The class of quantization of a number of steps.
-#[tactic(auto, unfolding(quantization::specs::Classes::bits_per_sample))]
 pub fn class_of_quantization(steps: u32, cd: &mut [f64], out: &mut [u32]) -> Result<u32, Refusal>
     ensures cd_written { Answers
         (answered
