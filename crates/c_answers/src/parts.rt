@@ -1,7 +1,7 @@
 // What the other crates answer, in the parts that C takes: a number and values.
 ghost use Rattle.std.specs.Prelude.{◌≡◌};
 ghost use Rattle.c_answers.specs.Told.{told_result, told_option};
-ghost use Rattle.c_answers.specs.Replies.{limits_of, figures_of, triplet_values, selection_values};
+ghost use Rattle.c_answers.specs.Replies.{limits_of, class_or, figures_of, triplet_values, selection_values};
 
 use bitalloc::BitAllocTable;
 use encoder_bit_budget::BitAllocError;
@@ -48,17 +48,20 @@ impl<T: Copy> Told<T> {
     }
 }
 
-// Grouping, samples and bits per codeword, bits per sample.
-#[tactic(auto, using(crate::proofs::AnswerLaws::as_bit))]
-pub fn figures(class: QuantClass) -> [u32; 4]
-    ensures { result ≡ figures_of class }
+// Grouping, samples and bits per codeword, bits per sample; zeros without a class.
+#[tactic(auto, using(crate::proofs::AnswerLaws::as_bit), unfolding(quantization::specs::Classes::bits_per_sample))]
+pub fn figures(found: Option<QuantClass>) -> [u32; 4]
+    ensures { result ≡ figures_of (class_or found) }
 {
-    [
-        class.grouping as u32,
-        class.samples_per_codeword,
-        class.bits_per_codeword,
-        class.bits_per_sample(),
-    ]
+    match found {
+        Some(class) => [
+            class.grouping as u32,
+            class.samples_per_codeword,
+            class.bits_per_codeword,
+            class.bits_per_sample(),
+        ],
+        None => [0; 4],
+    }
 }
 
 // How many subbands a table carries, and the bits of a subband's allocation field.

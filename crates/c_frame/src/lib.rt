@@ -105,10 +105,10 @@ pub fn demand_bits(given: HeaderNumbers, smr_db: &[f64], out: &mut [u64]) -> Res
         (bits_demanded smr_db.now))
         out.old (number_in result) out.new }
 {
-    let ratios = rows(smr_db)?;
+    let smr = rows(smr_db)?;
     room(out.len(), 1)?;
     let header = FrameHeader::try_from(given)?;
-    let answer = encoder_bit_demand::demand_bits(header, ratios);
+    let answer = encoder_bit_demand::demand_bits(header, smr);
     let demand = Told::of_result(answer, 0);
     out[0] = demand.value;
     Ok(demand.number)

@@ -62,7 +62,6 @@ fn put_found(found: Option<u32>, out: &mut [u32]) -> Result<u32, Refusal>
 }
 
 // The class of quantization of a number of steps.
-#[tactic(auto, unfolding(quantization::specs::Classes::bits_per_sample))]
 pub fn class_of_quantization(steps: u32, cd: &mut [f64], out: &mut [u32]) -> Result<u32, Refusal>
     ensures cd_written { Answers
         (answered
@@ -79,10 +78,9 @@ pub fn class_of_quantization(steps: u32, cd: &mut [f64], out: &mut [u32]) -> Res
     room(out.len(), 4)?;
     let class = quantization::class_of_quantization(steps);
     let coefficients = Told::of_option(class.map(c_and_d), NO_CLASS, [0.0; 2]);
-    let figures = Told::of_option(class.map(parts::figures), NO_CLASS, [0; 4]);
     writing::put(&coefficients.value, cd);
-    writing::put(&figures.value, out);
-    Ok(figures.number)
+    writing::put(&parts::figures(class), out);
+    Ok(coefficients.number)
 }
 
 // The coefficients C and D of a class.

@@ -20,7 +20,7 @@ enum Part {
 
 // A line of which the end has not been read.
 // Kept: the numbers are an array with their count, since nothing here is allocated; no line has more than 256.
-#[derive(Drop)]
+#[derive(Clone, Copy)]
 pub struct Line {
     // Counted from 1.
     pub number: u64,

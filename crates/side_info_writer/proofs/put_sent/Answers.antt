@@ -17,37 +17,37 @@ behind bs i = bs ++ bits_of 6 i
 pub put-requires : goal.put-requires
 put-requires c =
     let t = three_in c.args.indices in
-    let small = (tabled_each t c.requires.0).first in
+    let small = tabled_each t c.requires.0 in
     let fits = room t _ c.args.scfsi c.requires.1 in
-    (lit≤ tt, omega (arith, small, c.from.ensures), omega (arith, fits, parts_least c.args.scfsi))
+    (lit≤ tt, omega (arith, small.first, small.second, small.third, c.from.ensures), omega (arith, fits, parts_least c.args.scfsi))
 
 pub put-requires-in-ThreePerGranule : goal.put-requires-in-ThreePerGranule
 put-requires-in-ThreePerGranule c =
     let t = three_in c.args.indices in
-    let small = (tabled_each t c.requires.0).second in
+    let small = tabled_each t c.requires.0 in
     let fits = room t _ c.args.scfsi c.requires.1 in
     let parts : parts_of c.args.scfsi ≡ 3 = ap parts_of c.in-ThreePerGranule.is in
     let one = one_more _ _ _ c.put.ensures in
-    (lit≤ tt, omega (arith, small, c.from-in-ThreePerGranule.ensures), omega (arith, fits, parts, one))
+    (lit≤ tt, omega (arith, small.first, small.second, small.third, c.from-in-ThreePerGranule.ensures), omega (arith, fits, parts, one))
 
 pub put-requires-in-ThreePerGranule-2 : goal.put-requires-in-ThreePerGranule-2
 put-requires-in-ThreePerGranule-2 c =
     let t = three_in c.args.indices in
-    let small = (tabled_each t c.requires.0).third in
+    let small = tabled_each t c.requires.0 in
     let fits = room t _ c.args.scfsi c.requires.1 in
     let parts : parts_of c.args.scfsi ≡ 3 = ap parts_of c.in-ThreePerGranule.is in
     let one = one_more _ _ _ c.put.ensures in
     let two = one_more _ _ _ c.put-in-ThreePerGranule.ensures in
-    (lit≤ tt, omega (arith, small, c.from-in-ThreePerGranule-2.ensures), omega (arith, fits, parts, one, two))
+    (lit≤ tt, omega (arith, small.first, small.second, small.third, c.from-in-ThreePerGranule-2.ensures), omega (arith, fits, parts, one, two))
 
 pub put-requires-in-Share01Then2 : goal.put-requires-in-Share01Then2
 put-requires-in-Share01Then2 c =
     let t = three_in c.args.indices in
-    let small = (tabled_each t c.requires.0).third in
+    let small = tabled_each t c.requires.0 in
     let fits = room t _ c.args.scfsi c.requires.1 in
     let parts = two_parts c.args.scfsi c.in-Share01Then2.is in
     let one = one_more _ _ _ c.put.ensures in
-    (lit≤ tt, omega (arith, small, c.from-in-Share01Then2.ensures), omega (arith, fits, parts, one))
+    (lit≤ tt, omega (arith, small.first, small.second, small.third, c.from-in-Share01Then2.ensures), omega (arith, fits, parts, one))
 
 pub returns-in-ThreePerGranule : goal.returns-in-ThreePerGranule
 returns-in-ThreePerGranule c =
