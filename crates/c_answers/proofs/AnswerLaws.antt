@@ -1,12 +1,12 @@
 -- Laws of what is written, and of arrays.
 use mathlib.Core.Path.{◌≡◌, refl, sym, ap, ◌∙◌}
 use mathlib.Core.Bool.{Bool, true, false}
-use mathlib.Core.List.{List, ◌++◌, append-nil, map}
+use mathlib.Core.List.{List, [], ◌∷◌, ◌++◌, append-nil, map}
 use mathlib.Core.Logic.{◌⊎◌, inl, inr}
 use Prim.Native.Nat.{ℕ, ◌≤◌, ◌<◌, min}
 use native.Mathlib.Omega.{arith}
 use mir.Val.{bool_byte}
-use lib.ListN.{length, take, drop, length-append, length-drop, length-map, drop_of_length-le}
+use lib.ListN.{length, set, take, drop, length-append, length-drop, length-map, drop_of_length-le}
 use lib.Seq.{ext_get_or, take_all, take-append-le}
 use denote.Param.Members.{Mut}
 use Rattle.std.proofs.Math.Nat.{min-eq_left, min-eq_right}
@@ -15,7 +15,7 @@ use Rattle.std.proofs.lemmas.List.{get_or-map}
 use Rattle.std.specs.Fn.{Called}
 use Rattle.std.specs.Array.{IsMapOf}
 use Rattle.encoder_scfsi.specs.Select.{bit}
-use Rattle.c_answers.specs.Answers.{written, fitted}
+use Rattle.c_answers.specs.Answers.{Meaning, meant, Reply, answered, written, fitted, Answers}
 
 module _ {A : Type 0} where
   long_written : (vs old : List A) → length vs ≤ length old → length (written vs old) ≤ length old
@@ -28,6 +28,22 @@ module _ {A : Type 0} where
 
   pub fits : (vs old new : List A) → length vs ≤ length old → new ≡ fitted vs old → new ≡ written vs old
   fits vs old new h e = e ∙ all_fit vs old h
+
+-- one value written, and two
+module _ {A : Type 0} where
+  pub one_written : (old : List A) (v : A) → 1 ≤ length old → set old 0 v ≡ written (v ∷ []) old
+  one_written [] v h = absurd (omega arith)
+  one_written (x ∷ old) v h = refl
+
+  pub two_written : (old : List A) (v w : A) → 2 ≤ length old → set (set old 0 v) 1 w ≡ written (v ∷ w ∷ []) old
+  two_written [] v w h = absurd (omega arith)
+  two_written (x ∷ []) v w h = absurd (omega arith)
+  two_written (x ∷ y ∷ old) v w h = refl
+
+-- arguments that mean something get the reply g of what is found, where that is the reply f to them
+pub replied : {X W A : Type 0} (m : Meaning X) (f : X → Reply A) (old : List A) (x : X) (r : ℕ) (new : List A) (g : W → Reply A) (w v : W) → m ≡ meant x
+    → w ≡ v → g v ≡ f x → Answers (g w) old r new → Answers (answered m f) old r new
+replied m f old x r new g w v e p q a = rw (e, ← q, ← p) a
 
 -- ---- a flag as a number
 

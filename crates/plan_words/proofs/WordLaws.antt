@@ -1,5 +1,5 @@
 -- Laws of the words with a number.
-use Rattle.std.proofs.Common.{◌≡◌, ℕ, ◌<◌, ◌≤◌, Bool, true, false, cond, List, length, take, drop, leb, eqb, refl, sym, arith}
+use Rattle.std.proofs.Common.{◌≡◌, ℕ, suc, ◌<◌, ◌≤◌, Bool, true, false, true≢false, cond, List, [], ◌∷◌, length, take, drop, leb, eqb, refl, sym, ap, arith, length-take}
 use Rattle.std.specs.Prelude.{None, Some, Result, Ok, Err}
 use Rattle.std.specs.Result.{OkIff, result_ok}
 use Rattle.std.proofs.lemmas.Option.{none-some}
@@ -8,6 +8,7 @@ use lib.Dec.{lit≤}
 use borrow.Author.Tests.{le-leb, lt-leb}
 use Rattle.plan_text.specs.Bytes.{same}
 use Rattle.plan_text.specs.Digits.{number_to}
+use Rattle.plan_text.proofs.ByteLaws.{both}
 use Rattle.plan_text.proofs.DigitLaws.{read_most, read_less, unread_less}
 use Rattle.plan_words.specs.Word.{number, value_after}
 
@@ -52,3 +53,22 @@ value_in_32_bits key w n = go (same (take (length key) w) key)
     go : (b : Bool) → cond b (number (drop (length key) w)) None ≡ Some n → n ≤ 4_294_967_295
     go true e = in_32_bits (drop (length key) w) n e
     go false e = absurd (none-some n e)
+
+-- a word shorter than the key has none behind it
+module _ (key w : List ℕ) where
+  pub too_short : length w < length key → value_after key w ≡ None
+  unfolding value_after
+  too_short h = go (same (take (length key) w) key) refl
+    where
+      equal : (a b : List ℕ) → same a b ≡ true → length a ≡ length b
+      equal [] [] e = refl
+      equal [] (y ∷ ys) e = absurd (true≢false (sym e))
+      equal (x ∷ xs) [] e = absurd (true≢false (sym e))
+      equal (x ∷ xs) (y ∷ ys) e = ap suc (equal xs ys (both (eqb x y) (same xs ys) e).1)
+
+      go : (b : Bool) → same (take (length key) w) key ≡ b → cond b (number (drop (length key) w)) None ≡ None
+      go true e =
+          let z = equal (take (length key) w) key e in
+          let l = length-take (length key) w in
+          absurd (omega arith)
+      go false e = refl
