@@ -7,7 +7,7 @@ ghost use Rattle.plan_ratios.specs.Ratio.{few, pointed, unsigned, signed, word_v
 ghost use Rattle.plan_text.specs.Bytes.{pieces};
 ghost use Rattle.plan_text.specs.Lines.{ends_line};
 ghost use Rattle.plan_ratios.specs.Ratios.{ratios_of};
-ghost use Rattle.plan_ratios.specs.Tokens.{on_line};
+ghost use Rattle.plan_ratios.specs.Tokens.{on_line, tokens_from};
 ghost use Rattle.plan_ratios.specs.Walk.{Filled, Passed, Refused};
 
 // The words that are no numbers, and the ratios that they stand for.
@@ -110,30 +110,7 @@ pub fn read_ratios(text: &[u8], slots: usize) -> Result<Ratios, RatiosError>
         count: 0,
         wanted: slots.min(64),
     };
-    // Kept: `split` goes over a line three times, and each of many line feeds and blanks would be a part: an input of these took up to 2.8 times as long.
-    let (mut line, mut start, mut at) = (1, 0, 0);
-    while at < text.len() {
-        let byte = text[at];
-        if plan_text::is_end(byte) {
-            if start < at {
-                read.take(&text[start..at], line)?;
-            }
-            if byte == plan_text::HASH {
-                at = plan_text::find_byte(text, at, b'\n');
-            } else {
-                if byte == b'\n' {
-                    line += 1;
-                }
-                at += 1;
-            }
-            start = at;
-        } else {
-            at += 1;
-        }
-    }
-    if start < text.len() {
-        read.take(&text[start..], line)?;
-    }
+    read.take_text(text)?;
     let count = read.count;
     if read.count < read.wanted {
         let line = count_lines(text);
@@ -154,6 +131,38 @@ struct Slots {
 }
 
 impl Slots {
+    // The ratios of a text.
+    fn take_text(&mut self, text: &[u8]) -> Result<(), RatiosError>
+        requires { Filled self.old }
+        ensures { MatchResult result (λ _. Passed (tokens_from 1 text.now) self.old self.new) (Refused (tokens_from 1 text.now) self.old) }
+    {
+        // Kept: `split` goes over a line three times, and each of many line feeds and blanks would be a part: an input of these took up to 2.8 times as long.
+        let (mut line, mut start, mut at) = (1, 0, 0);
+        while at < text.len() {
+            let byte = text[at];
+            if plan_text::is_end(byte) {
+                if start < at {
+                    self.take(&text[start..at], line)?;
+                }
+                if byte == plan_text::HASH {
+                    at = plan_text::find_byte(text, at, b'\n');
+                } else {
+                    if byte == b'\n' {
+                        line += 1;
+                    }
+                    at += 1;
+                }
+                start = at;
+            } else {
+                at += 1;
+            }
+        }
+        if start < text.len() {
+            self.take(&text[start..], line)?;
+        }
+        Ok(())
+    }
+
     // The ratio of a token that stands on a line.
     fn take(&mut self, token: &[u8], line: u64) -> Result<(), RatiosError>
         requires { Filled self.old }
