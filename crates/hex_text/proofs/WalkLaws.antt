@@ -1,15 +1,13 @@
--- The walk over a text: what holds before each line, and what follows where it ends.
-use Rattle.std.proofs.Common.{◌≡◌, refl, sym, ap, ◌∙◌, subst, ℕ, zero, suc, ◌+◌, ◌≤◌, ◌<◌, Bool, true, false, cond, List, [], ◌∷◌, ◌++◌, length, take, arith, length-append}
-use Rattle.std.specs.Prelude.{⊤, Option, None, Some, Ok, Err, IfSome, Result}
-use Rattle.std.specs.List.{slice_split, onto_first, join_with_byte}
-use Rattle.std.proofs.lemmas.List.{append_assoc, append-nil}
-use Rattle.std.proofs.lemmas.List.Splits.{join_with_byte-slice_split}
+-- The walk over a text: what holds before each character, and what follows where it ends.
+use Rattle.std.proofs.Common.{◌≡◌, refl, sym, ap, ◌∙◌, subst, ℕ, ◌+◌, ◌*◌, ◌≤◌, ◌<◌, Bool, true, false, cond, List, [], ◌∷◌, ◌++◌, length, get_or, take, drop, add-one, arith, drop-cons, length-append}
+use lib.ListN.{drop_of_length-le}
+use Rattle.std.specs.Prelude.{Option, None, Some, Ok, Err, IfSome, Result}
 use Rattle.plan_text.specs.Lines.{ends_line}
 use Rattle.hex_text.specs.declared.Digits.{Digits}
 use Rattle.hex_text.specs.declared.HexError.{HexError}
-use Rattle.hex_text.specs.declared.HexError.TheVariants.{OddDigits}
-use Rattle.hex_text.specs.Hex.{first_place, paired, is_odd, accepted, odd_on, read_from, hex_of, counted as counted_in, HexIs}
-use Rattle.hex_text.specs.Walk.{Held, OneLine, on_line, goes_on, answered, Passed, ended, finished_as}
+use Rattle.hex_text.specs.declared.HexError.TheVariants.{WrongCharacter, OddDigits}
+use Rattle.hex_text.specs.Hex.{Place, digit_of, first_place, next_line, next_column, past, skipped, paired, is_odd, accepted, wrong_at, odd_on, read_from, hex_of, counted as counted_in, HexIs}
+use Rattle.hex_text.specs.Walk.{Held, Put, ended, finished_as}
 use Rattle.hex_text.proofs.DigitLaws.{few, odd_left, none_left}
 
 -- ---- what an answer tells
@@ -20,126 +18,130 @@ no_bytes e b q = cc
 these : (a b : List ℕ) → ◌≡◌ {A = Result (List ℕ) HexError} (Ok a) (Ok b) → a ≡ b
 these a b q = cc
 
--- ---- the lines of a text
+-- ---- the next character
 
--- none has a line feed
-abbrev Clean : List (List ℕ) → Type 0
-Clean [] = ⊤
-Clean (l ∷ ls) = OneLine l × Clean ls
+module _ (text : List ℕ) (i : ℕ) (p : Place) (ds : List ℕ) (last : ℕ) where
+  abbrev b : ℕ
+  b = get_or text i 0
 
-lines_clean : (bs : List ℕ) → Clean (slice_split ends_line bs)
-lines_clean [] = (λ k h. absurd (omega arith), tt)
-lines_clean (b ∷ bs) = go (ends_line b) refl (slice_split ends_line bs) (lines_clean bs)
-  where
-    longer : (e : ends_line b ≡ false) (l : List ℕ) → OneLine l → OneLine (b ∷ l)
-    longer e l o zero h = e
-    longer e l o (suc k) h = o k (omega arith)
+  skip_at : i < length text → skipped p b ≡ true → read_from p ds last (drop i text) ≡ read_from (past p b) ds last (drop (i + 1) text)
+  unfolding read_from
+  skip_at h e = rw (add-one i, drop-cons text i 0 h, e)
 
-    go : (t : Bool) → ends_line b ≡ t → (ls : List (List ℕ)) → Clean ls → Clean (cond t ([] ∷ ls) (onto_first b ls))
-    go true e ls c = ((λ k h. absurd (omega arith)), c)
-    go false e [] c = (longer e [] (λ k h. absurd (omega arith)), tt)
-    go false e (l ∷ ls) c = (longer e l c.0, c.1)
+  wrong_at_lem : i < length text → skipped p b ≡ false → digit_of b ≡ None → read_from p ds last (drop i text) ≡ wrong_at p
+  unfolding read_from
+  wrong_at_lem h e z = rw (drop-cons text i 0 h, e, z)
 
-clean_at : (ks : List (List ℕ)) (l : List ℕ) (ls : List (List ℕ)) → Clean (ks ++ l ∷ ls) → OneLine l
-clean_at [] l ls c = c.0
-clean_at (k ∷ ks) l ls c = clean_at ks l ls c.1
+  digit_at : (d : ℕ) → i < length text → skipped p b ≡ false → digit_of b ≡ Some d
+      → read_from p ds last (drop i text) ≡ read_from (past p b) (ds ++ d ∷ []) (p.line + 1) (drop (i + 1) text)
+  unfolding read_from
+  digit_at d h e z = rw (add-one i, drop-cons text i 0 h, e, z)
 
-abbrev joined : List (List ℕ) → List ℕ
-joined ls = join_with_byte 10 ls
+  end_at : length text ≤ i → read_from p ds last (drop i text) ≡ cond (is_odd ds) (odd_on last) (accepted (paired ds))
+  unfolding read_from
+  end_at h = rw (drop_of_length-le text h)
 
--- what stands behind a line
-abbrev behind : List (List ℕ) → List ℕ
-behind [] = []
-behind (m ∷ ms) = 10 ∷ joined (m ∷ ms)
+module _ (p : Place) (c i : ℕ) where
+  abbrev behind : Bool → Place
+  behind ends = cond ends (next_line p) (next_column p c)
 
-first_line : (l : List ℕ) (ls : List (List ℕ)) → joined (l ∷ ls) ≡ l ++ behind ls
-first_line l [] = sym (append-nil l)
-first_line l (m ∷ ms) = refl
+  past_line : p.line ≤ i → (past p c).line ≤ i + 1
+  unfolding past
+  past_line h = go (ends_line c)
+    where
+      go : (t : Bool) → (behind t).line ≤ i + 1
+      go true = omega arith
+      go false = omega arith
 
-behind_goes : (ls : List (List ℕ)) → goes_on (behind ls) ≡ true
-behind_goes [] = refl
-behind_goes (m ∷ ms) = refl
+  past_column : p.column ≤ i → (past p c).column ≤ i + 1
+  unfolding past
+  past_column h = go (ends_line c)
+    where
+      go : (t : Bool) → (behind t).column ≤ i + 1
+      go true = omega arith
+      go false = omega arith
 
-behind_long : (ls : List (List ℕ)) → length (joined ls) ≤ length (behind ls)
-behind_long [] = omega arith
-behind_long (m ∷ ms) = omega arith
+-- ---- before each character
 
-next_line : (n : ℕ) (ds : List ℕ) (last : ℕ) (ls : List (List ℕ)) → answered n ds last (behind ls) ≡ read_from (on_line (n + 1) 0) ds last (joined ls)
-unfolding read_from
-next_line n ds last [] = refl
-next_line n ds last (m ∷ ms) = refl
-
-ended_at : (n : ℕ) (ds : List ℕ) (last : ℕ) → read_from (on_line n 0) ds last [] ≡ cond (is_odd ds) (odd_on last) (accepted (paired ds))
-unfolding read_from
-ended_at n ds last = refl
-
--- ---- before each line
-
--- the digits got are held, and the lines behind those that are read are still to come
-pub record Walked (text old buffer : List ℕ) (d : Digits) (read : List (List ℕ)) : Type 0 where
+-- the digits got are held, and the text from the place on is still to come
+pub record Walked (text old buffer : List ℕ) (p : Place) (d : Digits) (i : ℕ) : Type 0 where
   pub got : List ℕ
   pub held : Held got d buffer
+  pub left : hex_of text ≡ read_from p got d.last (drop i text)
+  pub few : length got ≤ i
+  pub within : i ≤ length text
+  pub line : p.line ≤ i
+  pub column : p.column ≤ i
   pub small : IfSome d.high (λ high. high < 16)
   pub long : length buffer ≡ length old
-  pub ahead : (ls : List (List ℕ)) → slice_split ends_line text ≡ read ++ ls
-      → (hex_of text ≡ read_from (on_line (length read) 0) got d.last (joined ls)) × (length got + length (joined ls) ≤ length text)
 
-pub at_first : (text old : List ℕ) → Walked text old old (record { count = 0; high = None; last = 0 }) []
+pub same_walk : {text old buffer newer : List ℕ} {p q : Place} {d e : Digits} {i : ℕ} → newer ≡ buffer → q ≡ p → e ≡ d → Walked text old buffer p d i
+    → Walked text old newer q e i
+same_walk a b c w = rw (a, b, c) w
+
+pub at_first : (text old : List ℕ) → Walked text old old first_place (record { count = 0; high = None; last = 0 }) 0
 unfolding hex_of
 at_first text old = record {
   got = [];
   held = record { high = refl; count = refl; stored = λ l. refl };
+  left = refl;
+  few = omega arith;
+  within = omega arith;
+  line = omega arith;
+  column = omega arith;
   small = tt;
   long = refl;
-  ahead = λ ls e.
-      let z : joined ls ≡ text = ap joined (sym e) ∙ join_with_byte-slice_split 10 text in
-      (ap (read_from first_place [] 0) (sym z), omega (arith, ap length z));
 }
 
-module _ (text old buffer : List ℕ) (d : Digits) (read : List (List ℕ)) (w : Walked text old buffer d read) where
-  -- at a line
-  module _ (l : List ℕ) (ls : List (List ℕ)) (at : slice_split ends_line text ≡ (read ++ l ∷ []) ++ ls) where
-    here : slice_split ends_line text ≡ read ++ l ∷ ls
-    here = at ∙ append_assoc read (l ∷ []) ls
+module _ (text old buffer : List ℕ) (p : Place) (d : Digits) (i : ℕ) (w : Walked text old buffer p d i) where
+  -- there are half as many bytes as characters at most
+  pub counted : 2 * d.count ≤ i
+  counted = omega (arith, few w.got, w.held.count, w.few)
 
-    pub line_one : OneLine l
-    line_one = clean_at read l ls (subst Clean here (lines_clean text))
+  -- at a character
+  module _ (h : i < length text) where
+    abbrev byte : ℕ
+    byte = get_or text i 0
 
-    pub line_room : d.count + length l ≤ length text
-    line_room = omega (arith, few w.got, w.held.count, (w.ahead (l ∷ ls) here).1, ap length (first_line l ls), length-append l (behind ls))
+    pub at_skipped : skipped p byte ≡ true → Walked text old buffer (past p byte) d (i + 1)
+    at_skipped e = record {
+      got = w.got;
+      held = w.held;
+      left = w.left ∙ skip_at text i p w.got d.last h e;
+      few = omega (arith, w.few);
+      within = omega arith;
+      line = past_line p byte i w.line;
+      column = past_column p byte i w.column;
+      small = w.small;
+      long = w.long;
+    }
 
-    pub line_refused : (final : List ℕ) (e : HexError) → ((rest : List ℕ) → read_from (on_line (length read) 0) w.got d.last (l ++ rest) ≡ Err e) → HexIs text final (Err e)
-    line_refused final e q =
-        let all : hex_of text ≡ Err e =
-        (w.ahead (l ∷ ls) here).0 ∙ ap (read_from (on_line (length read) 0) w.got d.last) (first_line l ls) ∙ q (behind ls) in
-        record { whole = ap counted_in (sym all); bytes = λ b z k. absurd (no_bytes e b (sym all ∙ z)); few = tt }
+    pub at_digit : (x : ℕ) (new : List ℕ) (r : Digits) → skipped p byte ≡ false → digit_of byte ≡ Some x → Put d x (p.line + 1) buffer new r
+        → Walked text old new (past p byte) r (i + 1)
+    at_digit x new r e z q = record {
+      got = w.got ++ x ∷ [];
+      held = q.more w.got w.held;
+      left = w.left ∙ digit_at text i p w.got d.last x h e z
+          ∙ ap (λ (n : ℕ). read_from (past p byte) (w.got ++ x ∷ []) n (drop (i + 1) text)) (sym q.last);
+      few = omega (arith, length-append w.got (x ∷ []), w.few);
+      within = omega arith;
+      line = past_line p byte i w.line;
+      column = past_column p byte i w.column;
+      small = q.small;
+      long = q.long ∙ w.long;
+    }
 
-  pub line_passed : (l : List ℕ) (new : List ℕ) (r : Digits) → length new ≡ length buffer → Passed l (length read) w.got d new r
-      → Walked text old new r (read ++ l ∷ [])
-  line_passed l new r k p = record {
-    got = p.got;
-    held = p.held;
-    small = p.small;
-    long = k ∙ w.long;
-    ahead = λ ls at.
-        let here = at ∙ append_assoc read (l ∷ []) ls in
-        let before = w.ahead (l ∷ ls) here in
-        let n : length (read ++ l ∷ []) ≡ length read + 1 = length-append read (l ∷ []) in (
-          before.0
-              ∙ ap (read_from (on_line (length read) 0) w.got d.last) (first_line l ls)
-              ∙ p.same (behind ls) (behind_goes ls)
-              ∙ next_line (length read) p.got r.last ls
-              ∙ ap (λ (m : ℕ). read_from (on_line m 0) p.got r.last (joined ls)) (sym n),
-          omega (arith, before.1, p.few, behind_long ls, ap length (first_line l ls), length-append l (behind ls)),
-        );
-  }
+    pub at_wrong : skipped p byte ≡ false → digit_of byte ≡ None → HexIs text buffer (Err (WrongCharacter (p.line + 1) (p.column + 1)))
+    at_wrong e z =
+        let all = w.left ∙ wrong_at_lem text i p w.got d.last h e z in
+        record { whole = ap counted_in (sym all); bytes = λ b q l. absurd (no_bytes (WrongCharacter (p.line + 1) (p.column + 1)) b (sym all ∙ q)); few = tt }
 
   -- at the end of the text
-  pub at_end : slice_split ends_line text ≡ read → HexIs text buffer (finished_as d)
+  pub at_end : length text ≤ i → HexIs text buffer (finished_as d)
   at_end h = go d.high refl
     where
       all : hex_of text ≡ cond (is_odd w.got) (odd_on d.last) (accepted (paired w.got))
-      all = (w.ahead [] (h ∙ sym (append-nil read))).0 ∙ ended_at (length read) w.got d.last
+      all = w.left ∙ end_at text i p w.got d.last h
 
       go : (t : Option ℕ) → d.high ≡ t → HexIs text buffer (ended t d.last d.count)
       go (Some x) e =
@@ -158,5 +160,5 @@ module _ (text old buffer : List ℕ) (d : Digits) (read : List (List ℕ)) (w :
             bytes = λ b q.
                 subst (λ (c : List ℕ). length c ≤ length buffer → take (length c) buffer ≡ c) (these (paired w.got) b (sym whole ∙ q))
                 (λ l. ap (λ (n : ℕ). take n buffer) (sym w.held.count) ∙ w.held.stored (omega (arith, w.held.count)));
-            few = let r = (w.ahead [] (h ∙ sym (append-nil read))).1 in omega (arith, few w.got, w.held.count, r);
+            few = omega (arith, counted);
           }

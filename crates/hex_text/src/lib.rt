@@ -1,9 +1,9 @@
 // Reading bytes that are written as hexadecimal digits.
 #![tactic(auto)]
 
-ghost use Rattle.std.specs.Prelude.{◌≡◌, ◌+◌, ◌<◌, length, set, IfSome};
-ghost use Rattle.hex_text.specs.Hex.{HexIs};
-ghost use Rattle.hex_text.specs.Walk.{WorthIs, Put, OneLine, LineRead, finished_as};
+ghost use Rattle.std.specs.Prelude.{◌≡◌, ◌<◌, set, IfSome};
+ghost use Rattle.hex_text.specs.Hex.{past, skipped, HexIs};
+ghost use Rattle.hex_text.specs.Walk.{place_of, WorthIs, Put, finished_as};
 
 // Why `read_hex` refuses; lines and columns are counted from 1.
 #[derive(Clone, Copy, Debug, PartialEq, Eq)]
@@ -12,6 +12,14 @@ pub enum HexError {
     WrongCharacter { line: u64, column: u64 },
     // The last digit, on that line, has no other beside it.
     OddDigits { line: u64 },
+}
+
+// Where the walk over the text stands: how many lines are before it, how many characters on its line, and whether a comment has begun there.
+#[derive(Clone, Copy)]
+struct Place {
+    line: u64,
+    column: u64,
+    comment: bool,
 }
 
 // The digits so far: how many bytes they make, the one that is left over, if one is, and the line of the last.
@@ -26,37 +34,57 @@ struct Digits {
 pub fn read_hex(text: &[u8], bytes: &mut [u8]) -> Result<usize, HexError>
     ensures { HexIs text.now bytes.new result }
 {
+    let mut place = Place {
+        line: 0,
+        column: 0,
+        comment: false,
+    };
     let mut digits = Digits {
         count: 0,
         high: None,
         last: 0,
     };
-    for (index, text) in text.split(|b| *b == b'\n').enumerate() {
-        digits = read_line(text, index as u64 + 1, digits, bytes)?;
+    for &byte in text {
+        if !is_skipped(place, byte) {
+            let Some(digit) = worth(byte) else {
+                return Err(HexError::WrongCharacter {
+                    line: place.line + 1,
+                    column: place.column + 1,
+                });
+            };
+            digits = put(digits, digit, place.line + 1, bytes);
+        }
+        place = past(place, byte);
     }
     finished(digits)
 }
 
-// The digits of a line, which stand before its comment, behind those of the lines before it.
-fn read_line(text: &[u8], line: u64, before: Digits, bytes: &mut [u8]) -> Result<Digits, HexError>
-    requires count { before.count + length text.now < 18446744073709551616 }
-    requires high { IfSome before.high (λ high. high < 16) }
-    requires one { OneLine text.now }
-    ensures long { length bytes.new ≡ length bytes.old }
-    ensures read { LineRead text.now line before bytes.old bytes.new result }
+// Whether a byte at a place is skipped.
+fn is_skipped(place: Place, byte: u8) -> bool
+    ensures { result ≡ skipped (place_of place) byte }
 {
-    let mut digits = before;
-    let end = plan_text::find_byte(text, 0, plan_text::HASH);
-    for (index, &byte) in text[..end].iter().enumerate() {
-        if !plan_text::is_blank(byte) {
-            let column = index as u64 + 1;
-            let Some(digit) = worth(byte) else {
-                return Err(HexError::WrongCharacter { line, column });
-            };
-            digits = put(digits, digit, line, bytes);
+    (byte == b'\n') | place.comment | (byte == plan_text::HASH) | plan_text::is_blank(byte)
+}
+
+// The place behind a byte.
+fn past(place: Place, byte: u8) -> Place
+    requires line { place.line < 18446744073709551615 }
+    requires column { place.column < 18446744073709551615 }
+    ensures { place_of result ≡ past (place_of place) byte }
+{
+    if byte == b'\n' {
+        Place {
+            line: place.line + 1,
+            column: 0,
+            comment: false,
+        }
+    } else {
+        Place {
+            line: place.line,
+            column: place.column + 1,
+            comment: place.comment | (byte == plan_text::HASH),
         }
     }
-    Ok(digits)
 }
 
 // What a byte is worth as a digit; nothing where it is none.

@@ -1,58 +1,32 @@
 -- `hex_text::read_hex` meets its contract.
-use Rattle.std.proofs.Common.{◌≡◌, ◌+◌, ◌++◌, ◌∷◌, [], ℕ, List, length, sym, subst, arith, rules, tests}
-use Rattle.std.specs.List.{slice_split}
-use Rattle.std.proofs.lemmas.List.{map-append, length-map}
-use Rattle.std.proofs.lemmas.Result.{err_from_is_err_and}
-use Rattle.plan_text.specs.Lines.{ends_line}
+use Rattle.std.proofs.Common.{sym, ◌∙◌, subst, arith}
 use Rattle.hex_text.specs.Hex.{HexIs}
-use Rattle.plan_text.proofs.SplitLaws.{line_texts, its_place, its_turn, lines_end}
-use Rattle.hex_text.proofs.WalkLaws.{at_first, line_one, line_room, line_refused, line_passed, at_end}
+use Rattle.hex_text.proofs.WalkLaws.{at_first, counted, at_skipped, at_digit, at_wrong, at_end, same_walk}
 use Rattle.hex_text.proofs.read_hex.Goals as goal
-use Rattle.hex_text.proofs.read_hex.Goals.{In-Some}
+use Rattle.hex_text.proofs.read_hex.Goals.{then-not-is_skipped+in-Some, else-not-is_skipped}
 
--- the line of this turn is numbered as it stands in the text
-place : (c : In-Some) → c.in-Some.index + 1 ≡ length (line_texts c.loop-index.yielded) + 1
-place c =
-    let at = its_place ends_line c.args.text.now _ _ c.loop-index.yielded c.loop-index.yielded_by
-    (record { rest = cc; done = cc; test = λ x b q k. search (rules, tests) }) (cc) _ _ c.next.ensures.steps _ c.in-Some.is in
-    omega (arith, at, length-map c.loop-index.yielded (λ x. x.1.now))
+pub loop-byte-init : goal.loop-byte-init
+loop-byte-init c = at_first _ _
 
-turn : (c : In-Some) → (ls : List (List ℕ)) × (slice_split ends_line c.args.text.now ≡ (line_texts c.loop-index.yielded ++ c.in-Some.text.now ∷ []) ++ ls)
-turn c =
-    its_turn ends_line c.args.text.now _ _ c.loop-index.yielded c.loop-index.yielded_by
-    (record { rest = cc; done = cc; test = λ x b q k. search (rules, tests) }) (cc) _ _ c.next.ensures.steps _ c.in-Some.is
+pub returns-in_default : goal.returns-in_default
+returns-in_default c =
+    at_wrong _ _ _ _ _ _ c.loop-byte.invariant c.loop-byte-test.true (sym c.is_skipped.ensures ∙ c.if-not-is_skipped.true) (sym c.worth.ensures.whole ∙ c.in_default.is)
 
-pub loop-index-init : goal.loop-index-init
-loop-index-init c = at_first _ _
+pub put-digits-requires-clause-count : goal.put-digits-requires-clause-count
+put-digits-requires-clause-count c = omega (arith, counted _ _ _ _ _ _ c.loop-byte.invariant, c.loop-byte-test.true)
 
-pub read_line-requires-clause-count : goal.read_line-requires-clause-count
-read_line-requires-clause-count c =
-    let t = turn (goal.at.read_line-requires-clause-count c).In-Some in
-    let room = line_room _ _ _ _ _ c.loop-index.invariant _ t.0 t.1 in
-    omega (arith, room)
-
-pub read_line-requires-clause-one : goal.read_line-requires-clause-one
-read_line-requires-clause-one c =
-    let t = turn (goal.at.read_line-requires-clause-one c).In-Some in
-    line_one _ _ _ _ _ c.loop-index.invariant _ t.0 t.1
-
-pub returns-in_err-digits : goal.returns-in_err-digits
-returns-in_err-digits c =
-    let i = (goal.at.returns-in_err-digits c).In-Some in
-    let t = turn i in
-    let w = c.loop-index.invariant in
-    let p = err_from_is_err_and c.from_residual.result c.from_residual.ensures.1 in
-    rw (p.1, p.2) (line_refused _ _ _ _ _ w _ t.0 t.1 _ c.in_err-digits.field-0.0 (c.in_err-digits.ensures.read _ _ (place i) w.held))
-
-pub loop-index-preserved : goal.loop-index-preserved
-loop-index-preserved c =
-    let w = c.loop-index.invariant in
-    let passed = line_passed _ _ _ _ _ w c.in-Some.text.now _ _ c.in_ok-digits.ensures.long
-    (c.in_ok-digits.ensures.read _ _ (place (goal.at.loop-index-preserved c).In-Some) w.held) in
-    rw (map-append (λ x. x.1.now) c.loop-index.yielded ((c.in-Some.index, c.in-Some.text) ∷ [])) passed
+pub loop-byte-preserved : goal.loop-byte-preserved
+loop-byte-preserved c =
+    let tested = c.loop-byte-test.true in
+    elim c.if-not-is_skipped.branch [
+      | then-not-is_skipped+in-Some w ↦
+          same_walk w.bytes-is c.past-place.ensures w.digits-is
+          (at_digit _ _ _ _ _ _ c.loop-byte.invariant tested _ _ _ (sym c.is_skipped.ensures ∙ w.if-not-is_skipped.true) (sym w.worth.ensures.whole ∙ w.in-Some.is)
+          w.put-digits.ensures)
+      | else-not-is_skipped w ↦
+          same_walk w.bytes-is c.past-place.ensures w.digits-is
+          (at_skipped _ _ _ _ _ _ c.loop-byte.invariant tested (sym c.is_skipped.ensures ∙ w.if-not-is_skipped.false))
+    ]
 
 pub returns : goal.returns
-returns c =
-    let all = lines_end ends_line c.args.text.now _ _ c.loop-index.yielded c.loop-index.yielded_by
-    (record { rest = cc; done = cc; test = λ x b q k. search (rules, tests) }) (cc) _ _ c.next.ensures.steps c.in-None.is in
-    subst (HexIs _ _) (sym c.finished.ensures) (at_end _ _ _ _ _ c.loop-index.invariant (sym all))
+returns c = subst (HexIs _ _) (sym c.finished.ensures) (at_end _ _ _ _ _ _ c.loop-byte.invariant c.loop-byte-test.false)
