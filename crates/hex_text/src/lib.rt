@@ -63,7 +63,10 @@ pub fn read_hex(text: &[u8], bytes: &mut [u8]) -> Result<usize, HexError>
 fn is_skipped(place: Place, byte: u8) -> bool
     ensures { result ≡ skipped (place_of place) byte }
 {
-    (byte == b'\n') | place.comment | (byte == plan_text::HASH) | plan_text::is_blank(byte)
+    (byte == b'\n')
+        | place.comment
+        | (byte == plan_text::HASH)
+        | ((byte == b' ') | (byte == b'\t') | (byte == b'\r'))
 }
 
 // The place behind a byte.
