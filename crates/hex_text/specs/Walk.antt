@@ -1,15 +1,10 @@
--- What the walk over the text keeps of its place and of the digits.
+-- What the walk over the text keeps of the digits.
 -- For the contracts of private functions alone: nothing that a caller has to believe stands here.
 use Rattle.std.specs.Prelude.{ℕ, ◌+◌, ◌≤◌, ◌<◌, ◌≡◌, List, [], ◌∷◌, ◌++◌, length, take, Option, Some, None, Result, Ok, Err, IfSome}
 use Rattle.hex_text.specs.declared.Digits.{Digits}
 use Rattle.hex_text.specs.declared.HexError.{HexError}
 use Rattle.hex_text.specs.declared.HexError.TheVariants.{OddDigits}
-use Rattle.hex_text.specs.declared.Place.{Place as Counters}
-use Rattle.hex_text.specs.Hex.{Place, digit_of, paired}
-
--- the place that the counters tell
-abbrev pub place_of : Counters → Place
-place_of p = record { line = p.line; column = p.column; comment = p.comment }
+use Rattle.hex_text.specs.Hex.{digit_of, paired}
 
 -- what a byte is worth
 pub record WorthIs (byte : ℕ) (r : Option ℕ) : Type 0 where

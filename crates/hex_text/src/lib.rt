@@ -1,9 +1,10 @@
 // Reading bytes that are written as hexadecimal digits.
 #![tactic(auto)]
 
-ghost use Rattle.std.specs.Prelude.{◌≡◌, ◌<◌, set, IfSome};
-ghost use Rattle.hex_text.specs.Hex.{past, skipped, HexIs};
-ghost use Rattle.hex_text.specs.Walk.{place_of, WorthIs, Put, finished_as};
+ghost use Rattle.std.specs.Prelude.{◌≡◌, ◌<◌, set, IfSome, position};
+ghost use Rattle.plan_text.specs.Lines.{ends_line};
+ghost use Rattle.hex_text.specs.Hex.{HexIs};
+ghost use Rattle.hex_text.specs.Walk.{WorthIs, Put, finished_as};
 
 // Why `read_hex` refuses; lines and columns are counted from 1.
 #[derive(Clone, Copy, Debug, PartialEq, Eq)]
@@ -12,14 +13,6 @@ pub enum HexError {
     WrongCharacter { line: u64, column: u64 },
     // The last digit, on that line, has no other beside it.
     OddDigits { line: u64 },
-}
-
-// Where the walk over the text stands: how many lines are before it, how many characters on its line, and whether a comment has begun there.
-#[derive(Clone, Copy)]
-struct Place {
-    line: u64,
-    column: u64,
-    comment: bool,
 }
 
 // The digits so far: how many bytes they make, the one that is left over, if one is, and the line of the last.
@@ -34,60 +27,51 @@ struct Digits {
 pub fn read_hex(text: &[u8], bytes: &mut [u8]) -> Result<usize, HexError>
     ensures { HexIs text.now bytes.new result }
 {
-    let mut place = Place {
-        line: 0,
-        column: 0,
-        comment: false,
-    };
     let mut digits = Digits {
         count: 0,
         high: None,
         last: 0,
     };
-    for &byte in text {
-        if !is_skipped(place, byte) {
-            let Some(digit) = worth(byte) else {
-                return Err(HexError::WrongCharacter {
-                    line: place.line + 1,
-                    column: place.column + 1,
-                });
+    let mut line = 0;
+    let mut column = 0;
+    let mut at = 0;
+    // Kept: each byte is gone over once; `split` into lines goes over it to find the line's end and again for what it says.
+    while at < text.len() {
+        let byte = text[at];
+        if byte == b'\n' {
+            line += 1;
+            column = 0;
+            at += 1;
+        } else if byte == plan_text::HASH {
+            let Some(end) = line_feed(&text[at..]) else {
+                return finished(digits);
             };
-            digits = put(digits, digit, place.line + 1, bytes);
+            line += 1;
+            column = 0;
+            at += end + 1;
+        } else {
+            if !plan_text::is_blank(byte) {
+                let Some(digit) = worth(byte) else {
+                    return Err(HexError::WrongCharacter {
+                        line: line + 1,
+                        column: column + 1,
+                    });
+                };
+                digits = put(digits, digit, line + 1, bytes);
+            }
+            column += 1;
+            at += 1;
         }
-        place = past(place, byte);
     }
     finished(digits)
 }
 
-// Whether a byte at a place is skipped.
-fn is_skipped(place: Place, byte: u8) -> bool
-    ensures { result ≡ skipped (place_of place) byte }
+// The place of the first line feed; nothing where there is none.
+// Kept: `find_byte` of plan_text answers the text's length there, and takes a place to look from, which costs more than a comment of a few characters.
+fn line_feed(text: &[u8]) -> Option<usize>
+    ensures { result ≡ position ends_line text.now }
 {
-    (byte == b'\n')
-        | place.comment
-        | (byte == plan_text::HASH)
-        | ((byte == b' ') | (byte == b'\t') | (byte == b'\r'))
-}
-
-// The place behind a byte.
-fn past(place: Place, byte: u8) -> Place
-    requires line { place.line < 18446744073709551615 }
-    requires column { place.column < 18446744073709551615 }
-    ensures { place_of result ≡ past (place_of place) byte }
-{
-    if byte == b'\n' {
-        Place {
-            line: place.line + 1,
-            column: 0,
-            comment: false,
-        }
-    } else {
-        Place {
-            line: place.line,
-            column: place.column + 1,
-            comment: place.comment | (byte == plan_text::HASH),
-        }
-    }
+    text.iter().position(|b| *b == b'\n')
 }
 
 // What a byte is worth as a digit; nothing where it is none.
