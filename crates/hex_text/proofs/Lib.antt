@@ -1,4 +1,3 @@
 pub mod DigitLaws
-pub mod LineLaws
 pub mod WalkLaws
 pub mod Examples

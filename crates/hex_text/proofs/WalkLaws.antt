@@ -1,15 +1,17 @@
--- The walk over a text: what holds before each line, and what follows where it ends.
-use Rattle.std.proofs.Common.{◌≡◌, refl, sym, ap, ◌∙◌, subst, ℕ, zero, suc, ◌+◌, ◌≤◌, ◌<◌, Bool, true, false, cond, List, [], ◌∷◌, ◌++◌, length, take, arith, length-append}
-use Rattle.std.specs.Prelude.{⊤, Option, None, Some, Ok, Err, IfSome, Result}
-use Rattle.std.specs.List.{slice_split, onto_first, join_with_byte}
-use Rattle.std.proofs.lemmas.List.{append_assoc, append-nil}
-use Rattle.std.proofs.lemmas.List.Splits.{join_with_byte-slice_split}
-use Rattle.plan_text.specs.Lines.{ends_line}
+-- The walk over a text: what holds before each character, and what follows where it ends.
+use Rattle.std.proofs.Common.{◌≡◌, refl, sym, ap, ◌∙◌, subst, ℕ, suc, ◌+◌, ◌-◌, ◌*◌, ◌≤◌, ◌<◌, Bool, true, false, cond, List, [], ◌∷◌, ◌++◌, length, get_or, take, drop, add-one, arith, drop-cons, length-append, length-drop}
+use lib.ListN.{drop_of_length-le}
+use Rattle.std.specs.Prelude.{Option, None, Some, Ok, Err, IfSome, Result, position}
+use lib.Seq.{drop-drop}
+use Rattle.std.proofs.lemmas.List.Quantifiers.{position-Some}
+use Rattle.plan_text.specs.Bytes.{reach}
+use Rattle.plan_text.specs.Lines.{ends_line, is_hash, is_blank}
+use Rattle.plan_text.proofs.ByteLaws.{reach_some, reach_none, take_rest}
 use Rattle.hex_text.specs.declared.Digits.{Digits}
 use Rattle.hex_text.specs.declared.HexError.{HexError}
-use Rattle.hex_text.specs.declared.HexError.TheVariants.{OddDigits}
-use Rattle.hex_text.specs.Hex.{first_place, paired, is_odd, accepted, odd_on, read_from, hex_of, counted as counted_in, HexIs}
-use Rattle.hex_text.specs.Walk.{Held, OneLine, on_line, goes_on, answered, Passed, ended, finished_as}
+use Rattle.hex_text.specs.declared.HexError.TheVariants.{WrongCharacter, OddDigits}
+use Rattle.hex_text.specs.Hex.{Place, digit_of, next_line, past, paired, is_odd, accepted, wrong_at, odd_on, read_from, hex_of, counted as counted_in, HexIs}
+use Rattle.hex_text.specs.Walk.{Held, Put, ended, finished_as}
 use Rattle.hex_text.proofs.DigitLaws.{few, odd_left, none_left}
 
 -- ---- what an answer tells
@@ -20,126 +22,204 @@ no_bytes e b q = cc
 these : (a b : List ℕ) → ◌≡◌ {A = Result (List ℕ) HexError} (Ok a) (Ok b) → a ≡ b
 these a b q = cc
 
--- ---- the lines of a text
+-- ---- the next character
 
--- none has a line feed
-abbrev Clean : List (List ℕ) → Type 0
-Clean [] = ⊤
-Clean (l ∷ ls) = OneLine l × Clean ls
+-- a place before a comment
+abbrev pub on_line : ℕ → ℕ → Place
+on_line n k = record { line = n; column = k; comment = false }
 
-lines_clean : (bs : List ℕ) → Clean (slice_split ends_line bs)
-lines_clean [] = (λ k h. absurd (omega arith), tt)
-lines_clean (b ∷ bs) = go (ends_line b) refl (slice_split ends_line bs) (lines_clean bs)
-  where
-    longer : (e : ends_line b ≡ false) (l : List ℕ) → OneLine l → OneLine (b ∷ l)
-    longer e l o zero h = e
-    longer e l o (suc k) h = o k (omega arith)
+module _ (text : List ℕ) (i n k : ℕ) (ds : List ℕ) (last : ℕ) (h : i < length text) where
+  abbrev b : ℕ
+  b = get_or text i 0
 
-    go : (t : Bool) → ends_line b ≡ t → (ls : List (List ℕ)) → Clean ls → Clean (cond t ([] ∷ ls) (onto_first b ls))
-    go true e ls c = ((λ k h. absurd (omega arith)), c)
-    go false e [] c = (longer e [] (λ k h. absurd (omega arith)), tt)
-    go false e (l ∷ ls) c = (longer e l c.0, c.1)
+  line_at : ends_line b ≡ true → read_from (on_line n k) ds last (drop i text) ≡ read_from (on_line (n + 1) 0) ds last (drop (i + 1) text)
+  unfolding read_from past
+  line_at e = rw (add-one i, drop-cons text i 0 h, e)
 
-clean_at : (ks : List (List ℕ)) (l : List ℕ) (ls : List (List ℕ)) → Clean (ks ++ l ∷ ls) → OneLine l
-clean_at [] l ls c = c.0
-clean_at (k ∷ ks) l ls c = clean_at ks l ls c.1
+  module _ (e : ends_line b ≡ false) (f : is_hash b ≡ false) where
+    blank_at : is_blank b ≡ true → read_from (on_line n k) ds last (drop i text) ≡ read_from (on_line n (k + 1)) ds last (drop (i + 1) text)
+    unfolding read_from past
+    blank_at g = rw (add-one i, drop-cons text i 0 h, e, f, g)
 
-abbrev joined : List (List ℕ) → List ℕ
-joined ls = join_with_byte 10 ls
+    wrong_at_lem : is_blank b ≡ false → digit_of b ≡ None → read_from (on_line n k) ds last (drop i text) ≡ wrong_at (on_line n k)
+    unfolding read_from
+    wrong_at_lem g z = rw (drop-cons text i 0 h, e, f, g, z)
 
--- what stands behind a line
-abbrev behind : List (List ℕ) → List ℕ
-behind [] = []
-behind (m ∷ ms) = 10 ∷ joined (m ∷ ms)
+    digit_at : (d : ℕ) → is_blank b ≡ false → digit_of b ≡ Some d
+        → read_from (on_line n k) ds last (drop i text) ≡ read_from (on_line n (k + 1)) (ds ++ d ∷ []) (n + 1) (drop (i + 1) text)
+    unfolding read_from past
+    digit_at d g z = rw (add-one i, drop-cons text i 0 h, e, f, g, z)
 
-first_line : (l : List ℕ) (ls : List (List ℕ)) → joined (l ∷ ls) ≡ l ++ behind ls
-first_line l [] = sym (append-nil l)
-first_line l (m ∷ ms) = refl
+-- ---- a comment
 
-behind_goes : (ls : List (List ℕ)) → goes_on (behind ls) ≡ true
-behind_goes [] = refl
-behind_goes (m ∷ ms) = refl
+module _ (ds : List ℕ) (last : ℕ) where
+  -- behind its line feed, or at the end of the text
+  comment_skipped : (w : List ℕ) (p : Place) → p.comment ≡ true → read_from p ds last w ≡ read_from (next_line p) ds last (drop (suc (reach ends_line w)) w)
+  unfolding read_from past
+  comment_skipped [] p c = refl
+  comment_skipped (x ∷ bs) p c = go (ends_line x) refl (comment_skipped bs next refl)
+    where
+      next : Place
+      next = record { line = p.line; column = p.column + 1; comment = true }
 
-behind_long : (ls : List (List ℕ)) → length (joined ls) ≤ length (behind ls)
-behind_long [] = omega arith
-behind_long (m ∷ ms) = omega arith
+      go : (t : Bool) → ends_line x ≡ t → read_from next ds last bs ≡ read_from (next_line p) ds last (drop (suc (reach ends_line bs)) bs)
+          → read_from p ds last (x ∷ bs) ≡ read_from (next_line p) ds last (drop (suc (reach ends_line (x ∷ bs))) (x ∷ bs))
+      go true e q = rw e refl
+      go false e q = rw (e, c) q
 
-next_line : (n : ℕ) (ds : List ℕ) (last : ℕ) (ls : List (List ℕ)) → answered n ds last (behind ls) ≡ read_from (on_line (n + 1) 0) ds last (joined ls)
+  -- the # is skipped in a comment as before one
+  opened : (text : List ℕ) (i n k : ℕ) → i < length text → ends_line (get_or text i 0) ≡ false → is_hash (get_or text i 0) ≡ true
+      → read_from (on_line n k) ds last (drop i text) ≡ read_from (record { line = n; column = k; comment = true }) ds last (drop i text)
+  unfolding read_from past
+  opened text i n k h e f = rw (drop-cons text i 0 h, e, f)
+
+  module _ (text : List ℕ) (i n k : ℕ) (h : i < length text) (e : ends_line (get_or text i 0) ≡ false) (f : is_hash (get_or text i 0) ≡ true) where
+    hash_at : (m : ℕ) → position ends_line (drop i text) ≡ Some m → read_from (on_line n k) ds last (drop i text) ≡ read_from (on_line (n + 1) 0) ds last (drop (i + (m + 1)) text)
+    hash_at m q =
+        let r : reach ends_line (drop i text) ≡ m = reach_some ends_line (drop i text) m (sym q) in
+        let s : i + suc (reach ends_line (drop i text)) ≡ i + (m + 1) = omega arith in
+        opened text i n k h e f
+        ∙ comment_skipped (drop i text) (record { line = n; column = k; comment = true }) refl
+        ∙ ap (read_from (on_line (n + 1) 0) ds last) (drop-drop (suc (reach ends_line (drop i text))) i text ∙ ap (λ (j : ℕ). drop j text) s)
+
+    last_hash_at : position ends_line (drop i text) ≡ None → read_from (on_line n k) ds last (drop i text) ≡ read_from (on_line (n + 1) 0) ds last (drop (length text) text)
+    last_hash_at q =
+        let r : reach ends_line (drop i text) ≡ length (drop i text) = reach_none ends_line (drop i text) (sym q) in
+        let l = length-drop i text in
+        opened text i n k h e f
+        ∙ comment_skipped (drop i text) (record { line = n; column = k; comment = true }) refl
+        ∙ ap (read_from (on_line (n + 1) 0) ds last)
+        (drop_of_length-le (drop i text) {i = suc (reach ends_line (drop i text))} (omega arith) ∙ sym (drop_of_length-le text {i = length text} (omega arith)))
+
+end_at : (text : List ℕ) (i : ℕ) (p : Place) (ds : List ℕ) (last : ℕ) → length text ≤ i → read_from p ds last (drop i text) ≡ cond (is_odd ds) (odd_on last) (accepted (paired ds))
 unfolding read_from
-next_line n ds last [] = refl
-next_line n ds last (m ∷ ms) = refl
+end_at text i p ds last h = rw (drop_of_length-le text h)
 
-ended_at : (n : ℕ) (ds : List ℕ) (last : ℕ) → read_from (on_line n 0) ds last [] ≡ cond (is_odd ds) (odd_on last) (accepted (paired ds))
-unfolding read_from
-ended_at n ds last = refl
+-- the first line feed from a place on, as the code looks for it
+pub first_feed : (text : List ℕ) (i : ℕ) (r : Option ℕ) → r ≡ position ends_line (take (length text - i) (drop i text)) → position ends_line (drop i text) ≡ r
+first_feed text i r e = ap (position ends_line) (sym (take_rest text i)) ∙ sym e
 
--- ---- before each line
+-- ---- before each character
 
--- the digits got are held, and the lines behind those that are read are still to come
-pub record Walked (text old buffer : List ℕ) (d : Digits) (read : List (List ℕ)) : Type 0 where
+-- the digits got are held, and the text from the place on is still to come
+pub record Walked (text old buffer : List ℕ) (n k : ℕ) (d : Digits) (i : ℕ) : Type 0 where
   pub got : List ℕ
   pub held : Held got d buffer
+  pub left : hex_of text ≡ read_from (on_line n k) got d.last (drop i text)
+  pub few : length got ≤ i
+  pub within : i ≤ length text
+  pub line : n ≤ i
+  pub column : k ≤ i
   pub small : IfSome d.high (λ high. high < 16)
   pub long : length buffer ≡ length old
-  pub ahead : (ls : List (List ℕ)) → slice_split ends_line text ≡ read ++ ls
-      → (hex_of text ≡ read_from (on_line (length read) 0) got d.last (joined ls)) × (length got + length (joined ls) ≤ length text)
 
-pub at_first : (text old : List ℕ) → Walked text old old (record { count = 0; high = None; last = 0 }) []
+pub at_first : (text old : List ℕ) → Walked text old old 0 0 (record { count = 0; high = None; last = 0 }) 0
 unfolding hex_of
 at_first text old = record {
   got = [];
   held = record { high = refl; count = refl; stored = λ l. refl };
+  left = refl;
+  few = omega arith;
+  within = omega arith;
+  line = omega arith;
+  column = omega arith;
   small = tt;
   long = refl;
-  ahead = λ ls e.
-      let z : joined ls ≡ text = ap joined (sym e) ∙ join_with_byte-slice_split 10 text in
-      (ap (read_from first_place [] 0) (sym z), omega (arith, ap length z));
 }
 
-module _ (text old buffer : List ℕ) (d : Digits) (read : List (List ℕ)) (w : Walked text old buffer d read) where
-  -- at a line
-  module _ (l : List ℕ) (ls : List (List ℕ)) (at : slice_split ends_line text ≡ (read ++ l ∷ []) ++ ls) where
-    here : slice_split ends_line text ≡ read ++ l ∷ ls
-    here = at ∙ append_assoc read (l ∷ []) ls
+module _ (text old buffer : List ℕ) (n k : ℕ) (d : Digits) (i : ℕ) (w : Walked text old buffer n k d i) where
+  -- there are half as many bytes as characters at most
+  pub counted : 2 * d.count ≤ i
+  counted = omega (arith, few w.got, w.held.count, w.few)
 
-    pub line_one : OneLine l
-    line_one = clean_at read l ls (subst Clean here (lines_clean text))
+  -- at a character
+  module _ (h : i < length text) where
+    abbrev byte : ℕ
+    byte = get_or text i 0
 
-    pub line_room : d.count + length l ≤ length text
-    line_room = omega (arith, few w.got, w.held.count, (w.ahead (l ∷ ls) here).1, ap length (first_line l ls), length-append l (behind ls))
+    pub at_line : ends_line byte ≡ true → Walked text old buffer (n + 1) 0 d (i + 1)
+    at_line e = record {
+      got = w.got;
+      held = w.held;
+      left = w.left ∙ line_at text i n k w.got d.last h e;
+      few = omega (arith, w.few);
+      within = omega arith;
+      line = omega (arith, w.line);
+      column = omega arith;
+      small = w.small;
+      long = w.long;
+    }
 
-    pub line_refused : (final : List ℕ) (e : HexError) → ((rest : List ℕ) → read_from (on_line (length read) 0) w.got d.last (l ++ rest) ≡ Err e) → HexIs text final (Err e)
-    line_refused final e q =
-        let all : hex_of text ≡ Err e =
-        (w.ahead (l ∷ ls) here).0 ∙ ap (read_from (on_line (length read) 0) w.got d.last) (first_line l ls) ∙ q (behind ls) in
-        record { whole = ap counted_in (sym all); bytes = λ b z k. absurd (no_bytes e b (sym all ∙ z)); few = tt }
+    module _ (e : ends_line byte ≡ false) where
+      module _ (f : is_hash byte ≡ true) where
+        room : (m : ℕ) → position ends_line (drop i text) ≡ Some m → i + m < length text
+        room m q = let l = (position-Some ends_line (drop i text) m 0 q).0 in omega (arith, length-drop i text)
 
-  pub line_passed : (l : List ℕ) (new : List ℕ) (r : Digits) → length new ≡ length buffer → Passed l (length read) w.got d new r
-      → Walked text old new r (read ++ l ∷ [])
-  line_passed l new r k p = record {
-    got = p.got;
-    held = p.held;
-    small = p.small;
-    long = k ∙ w.long;
-    ahead = λ ls at.
-        let here = at ∙ append_assoc read (l ∷ []) ls in
-        let before = w.ahead (l ∷ ls) here in
-        let n : length (read ++ l ∷ []) ≡ length read + 1 = length-append read (l ∷ []) in (
-          before.0
-              ∙ ap (read_from (on_line (length read) 0) w.got d.last) (first_line l ls)
-              ∙ p.same (behind ls) (behind_goes ls)
-              ∙ next_line (length read) p.got r.last ls
-              ∙ ap (λ (m : ℕ). read_from (on_line m 0) p.got r.last (joined ls)) (sym n),
-          omega (arith, before.1, p.few, behind_long ls, ap length (first_line l ls), length-append l (behind ls)),
-        );
-  }
+        pub at_hash : (m : ℕ) → position ends_line (drop i text) ≡ Some m → Walked text old buffer (n + 1) 0 d (i + (m + 1))
+        at_hash m q = record {
+          got = w.got;
+          held = w.held;
+          left = w.left ∙ hash_at w.got d.last text i n k h e f m q;
+          few = omega (arith, w.few);
+          within = omega (arith, room m q);
+          line = omega (arith, w.line);
+          column = omega arith;
+          small = w.small;
+          long = w.long;
+        }
+
+        pub at_last_hash : position ends_line (drop i text) ≡ None → Walked text old buffer (n + 1) 0 d (length text)
+        at_last_hash q = record {
+          got = w.got;
+          held = w.held;
+          left = w.left ∙ last_hash_at w.got d.last text i n k h e f q;
+          few = omega (arith, w.few);
+          within = omega arith;
+          line = omega (arith, w.line);
+          column = omega arith;
+          small = w.small;
+          long = w.long;
+        }
+
+      module _ (f : is_hash byte ≡ false) where
+        pub at_blank : is_blank byte ≡ true → Walked text old buffer n (k + 1) d (i + 1)
+        at_blank g = record {
+          got = w.got;
+          held = w.held;
+          left = w.left ∙ blank_at text i n k w.got d.last h e f g;
+          few = omega (arith, w.few);
+          within = omega arith;
+          line = omega (arith, w.line);
+          column = omega (arith, w.column);
+          small = w.small;
+          long = w.long;
+        }
+
+        pub at_digit : (x : ℕ) (new : List ℕ) (r : Digits) → is_blank byte ≡ false → digit_of byte ≡ Some x → Put d x (n + 1) buffer new r
+            → Walked text old new n (k + 1) r (i + 1)
+        at_digit x new r g z q = record {
+          got = w.got ++ x ∷ [];
+          held = q.more w.got w.held;
+          left = w.left ∙ digit_at text i n k w.got d.last h e f x g z ∙ ap (λ (m : ℕ). read_from (on_line n (k + 1)) (w.got ++ x ∷ []) m (drop (i + 1) text)) (sym q.last);
+          few = omega (arith, length-append w.got (x ∷ []), w.few);
+          within = omega arith;
+          line = omega (arith, w.line);
+          column = omega (arith, w.column);
+          small = q.small;
+          long = q.long ∙ w.long;
+        }
+
+        pub at_wrong : is_blank byte ≡ false → digit_of byte ≡ None → HexIs text buffer (Err (WrongCharacter (n + 1) (k + 1)))
+        at_wrong g z =
+            let all = w.left ∙ wrong_at_lem text i n k w.got d.last h e f g z in
+            record { whole = ap counted_in (sym all); bytes = λ b q l. absurd (no_bytes (WrongCharacter (n + 1) (k + 1)) b (sym all ∙ q)); few = tt }
 
   -- at the end of the text
-  pub at_end : slice_split ends_line text ≡ read → HexIs text buffer (finished_as d)
+  pub at_end : length text ≤ i → HexIs text buffer (finished_as d)
   at_end h = go d.high refl
     where
       all : hex_of text ≡ cond (is_odd w.got) (odd_on d.last) (accepted (paired w.got))
-      all = (w.ahead [] (h ∙ sym (append-nil read))).0 ∙ ended_at (length read) w.got d.last
+      all = w.left ∙ end_at text i (on_line n k) w.got d.last h
 
       go : (t : Option ℕ) → d.high ≡ t → HexIs text buffer (ended t d.last d.count)
       go (Some x) e =
@@ -158,5 +238,5 @@ module _ (text old buffer : List ℕ) (d : Digits) (read : List (List ℕ)) (w :
             bytes = λ b q.
                 subst (λ (c : List ℕ). length c ≤ length buffer → take (length c) buffer ≡ c) (these (paired w.got) b (sym whole ∙ q))
                 (λ l. ap (λ (n : ℕ). take n buffer) (sym w.held.count) ∙ w.held.stored (omega (arith, w.held.count)));
-            few = let r = (w.ahead [] (h ∙ sym (append-nil read))).1 in omega (arith, few w.got, w.held.count, r);
+            few = omega (arith, counted);
           }

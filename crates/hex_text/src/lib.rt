@@ -1,9 +1,10 @@
 // Reading bytes that are written as hexadecimal digits.
 #![tactic(auto)]
 
-ghost use Rattle.std.specs.Prelude.{◌≡◌, ◌+◌, ◌<◌, length, set, IfSome};
+ghost use Rattle.std.specs.Prelude.{◌≡◌, ◌<◌, set, IfSome, position};
+ghost use Rattle.plan_text.specs.Lines.{ends_line};
 ghost use Rattle.hex_text.specs.Hex.{HexIs};
-ghost use Rattle.hex_text.specs.Walk.{WorthIs, Put, OneLine, LineRead, finished_as};
+ghost use Rattle.hex_text.specs.Walk.{WorthIs, Put, finished_as};
 
 // Why `read_hex` refuses; lines and columns are counted from 1.
 #[derive(Clone, Copy, Debug, PartialEq, Eq)]
@@ -31,32 +32,46 @@ pub fn read_hex(text: &[u8], bytes: &mut [u8]) -> Result<usize, HexError>
         high: None,
         last: 0,
     };
-    for (index, text) in text.split(|b| *b == b'\n').enumerate() {
-        digits = read_line(text, index as u64 + 1, digits, bytes)?;
+    let mut line = 0;
+    let mut column = 0;
+    let mut at = 0;
+    // Kept: each byte is gone over once; `split` into lines goes over it to find the line's end and again for what it says.
+    while at < text.len() {
+        let byte = text[at];
+        if byte == b'\n' {
+            line += 1;
+            column = 0;
+            at += 1;
+        } else if byte == plan_text::HASH {
+            let Some(end) = line_feed(&text[at..]) else {
+                return finished(digits);
+            };
+            line += 1;
+            column = 0;
+            at += end + 1;
+        } else {
+            if !plan_text::is_blank(byte) {
+                let Some(digit) = worth(byte) else {
+                    return Err(HexError::WrongCharacter {
+                        line: line + 1,
+                        column: column + 1,
+                    });
+                };
+                digits = put(digits, digit, line + 1, bytes);
+            }
+            column += 1;
+            at += 1;
+        }
     }
     finished(digits)
 }
 
-// The digits of a line, which stand before its comment, behind those of the lines before it.
-fn read_line(text: &[u8], line: u64, before: Digits, bytes: &mut [u8]) -> Result<Digits, HexError>
-    requires count { before.count + length text.now < 18446744073709551616 }
-    requires high { IfSome before.high (λ high. high < 16) }
-    requires one { OneLine text.now }
-    ensures long { length bytes.new ≡ length bytes.old }
-    ensures read { LineRead text.now line before bytes.old bytes.new result }
+// The place of the first line feed; nothing where there is none.
+// Kept: `find_byte` of plan_text answers the text's length there, and takes a place to look from, which costs more than a comment of a few characters.
+fn line_feed(text: &[u8]) -> Option<usize>
+    ensures { result ≡ position ends_line text.now }
 {
-    let mut digits = before;
-    let end = plan_text::find_byte(text, 0, plan_text::HASH);
-    for (index, &byte) in text[..end].iter().enumerate() {
-        if !plan_text::is_blank(byte) {
-            let column = index as u64 + 1;
-            let Some(digit) = worth(byte) else {
-                return Err(HexError::WrongCharacter { line, column });
-            };
-            digits = put(digits, digit, line, bytes);
-        }
-    }
-    Ok(digits)
+    text.iter().position(|b| *b == b'\n')
 }
 
 // What a byte is worth as a digit; nothing where it is none.

@@ -1,58 +1,46 @@
 -- `hex_text::read_hex` meets its contract.
-use Rattle.std.proofs.Common.{◌≡◌, ◌+◌, ◌++◌, ◌∷◌, [], ℕ, List, length, sym, subst, arith, rules, tests}
-use Rattle.std.specs.List.{slice_split}
-use Rattle.std.proofs.lemmas.List.{map-append, length-map}
-use Rattle.std.proofs.lemmas.Result.{err_from_is_err_and}
-use Rattle.plan_text.specs.Lines.{ends_line}
+use Rattle.std.proofs.Common.{sym, ◌∙◌, subst, arith, eq-eqb, ne_eqb}
 use Rattle.hex_text.specs.Hex.{HexIs}
-use Rattle.plan_text.proofs.SplitLaws.{line_texts, its_place, its_turn, lines_end}
-use Rattle.hex_text.proofs.WalkLaws.{at_first, line_one, line_room, line_refused, line_passed, at_end}
+use Rattle.hex_text.proofs.WalkLaws.{at_first, counted, first_feed, at_line, at_hash, at_last_hash, at_blank, at_digit, at_wrong, at_end}
 use Rattle.hex_text.proofs.read_hex.Goals as goal
-use Rattle.hex_text.proofs.read_hex.Goals.{In-Some}
+use Rattle.hex_text.proofs.read_hex.Goals.{then-not-is_blank+in-Some-worth, else-not-is_blank}
 
--- the line of this turn is numbered as it stands in the text
-place : (c : In-Some) → c.in-Some.index + 1 ≡ length (line_texts c.loop-index.yielded) + 1
-place c =
-    let at = its_place ends_line c.args.text.now _ _ c.loop-index.yielded c.loop-index.yielded_by
-    (record { rest = cc; done = cc; test = λ x b q k. search (rules, tests) }) (cc) _ _ c.next.ensures.steps _ c.in-Some.is in
-    omega (arith, at, length-map c.loop-index.yielded (λ x. x.1.now))
+pub loop-at-init : goal.loop-at-init
+loop-at-init c = at_first _ _
 
-turn : (c : In-Some) → (ls : List (List ℕ)) × (slice_split ends_line c.args.text.now ≡ (line_texts c.loop-index.yielded ++ c.in-Some.text.now ∷ []) ++ ls)
-turn c =
-    its_turn ends_line c.args.text.now _ _ c.loop-index.yielded c.loop-index.yielded_by
-    (record { rest = cc; done = cc; test = λ x b q k. search (rules, tests) }) (cc) _ _ c.next.ensures.steps _ c.in-Some.is
+pub loop-at-preserved-then-byte-eq10 : goal.loop-at-preserved-then-byte-eq10
+loop-at-preserved-then-byte-eq10 c = at_line _ _ _ _ _ _ _ c.loop-at.invariant c.loop-at-test.true (eq-eqb _ 10 c.if-byte-eq10.true)
 
-pub loop-index-init : goal.loop-index-init
-loop-index-init c = at_first _ _
+pub loop-at-preserved-then-byte-eq-HASH : goal.loop-at-preserved-then-byte-eq-HASH
+loop-at-preserved-then-byte-eq-HASH c =
+    at_hash _ _ _ _ _ _ _ c.loop-at.invariant c.loop-at-test.true (ne_eqb _ 10 c.if-byte-eq10.false) (eq-eqb _ 35 c.if-byte-eq-HASH.true) _ (first_feed c.args.text.now c.loop-at.at _ c.line_feed.ensures ∙ c.in-Some.is)
 
-pub read_line-requires-clause-count : goal.read_line-requires-clause-count
-read_line-requires-clause-count c =
-    let t = turn (goal.at.read_line-requires-clause-count c).In-Some in
-    let room = line_room _ _ _ _ _ c.loop-index.invariant _ t.0 t.1 in
-    omega (arith, room)
+pub returns-in_default : goal.returns-in_default
+returns-in_default c =
+    let ended = at_last_hash _ _ _ _ _ _ _ c.loop-at.invariant c.loop-at-test.true (ne_eqb _ 10 c.if-byte-eq10.false) (eq-eqb _ 35 c.if-byte-eq-HASH.true)
+    (first_feed c.args.text.now c.loop-at.at _ c.line_feed.ensures ∙ c.in_default.is) in
+    subst (HexIs _ _) (sym c.finished.ensures) (at_end _ _ _ _ _ _ _ ended (omega arith))
 
-pub read_line-requires-clause-one : goal.read_line-requires-clause-one
-read_line-requires-clause-one c =
-    let t = turn (goal.at.read_line-requires-clause-one c).In-Some in
-    line_one _ _ _ _ _ c.loop-index.invariant _ t.0 t.1
+pub returns-in_default-worth : goal.returns-in_default-worth
+returns-in_default-worth c =
+    at_wrong _ _ _ _ _ _ _ c.loop-at.invariant c.loop-at-test.true (ne_eqb _ 10 c.if-byte-eq10.false) (ne_eqb _ 35 c.if-byte-eq-HASH.false)
+    (sym c.is_blank.ensures ∙ c.if-not-is_blank.true) (sym c.worth.ensures.whole ∙ c.in_default-worth.is)
 
-pub returns-in_err-digits : goal.returns-in_err-digits
-returns-in_err-digits c =
-    let i = (goal.at.returns-in_err-digits c).In-Some in
-    let t = turn i in
-    let w = c.loop-index.invariant in
-    let p = err_from_is_err_and c.from_residual.result c.from_residual.ensures.1 in
-    rw (p.1, p.2) (line_refused _ _ _ _ _ w _ t.0 t.1 _ c.in_err-digits.field-0.0 (c.in_err-digits.ensures.read _ _ (place i) w.held))
+pub put-digits-requires-clause-count : goal.put-digits-requires-clause-count
+put-digits-requires-clause-count c = omega (arith, counted _ _ _ _ _ _ _ c.loop-at.invariant, c.loop-at-test.true)
 
-pub loop-index-preserved : goal.loop-index-preserved
-loop-index-preserved c =
-    let w = c.loop-index.invariant in
-    let passed = line_passed _ _ _ _ _ w c.in-Some.text.now _ _ c.in_ok-digits.ensures.long
-    (c.in_ok-digits.ensures.read _ _ (place (goal.at.loop-index-preserved c).In-Some) w.held) in
-    rw (map-append (λ x. x.1.now) c.loop-index.yielded ((c.in-Some.index, c.in-Some.text) ∷ [])) passed
+pub loop-at-preserved : goal.loop-at-preserved
+loop-at-preserved c =
+    elim c.if-not-is_blank.branch [
+      | then-not-is_blank+in-Some-worth w ↦
+          rw (w.bytes-is, w.digits-is)
+          (at_digit _ _ _ _ _ _ _ c.loop-at.invariant c.loop-at-test.true (ne_eqb _ 10 c.if-byte-eq10.false) (ne_eqb _ 35 c.if-byte-eq-HASH.false) _ _ _
+          (sym c.is_blank.ensures ∙ w.if-not-is_blank.true) (sym w.worth.ensures.whole ∙ w.in-Some-worth.is) w.put-digits.ensures)
+      | else-not-is_blank w ↦
+          rw (w.bytes-is, w.digits-is)
+          (at_blank _ _ _ _ _ _ _ c.loop-at.invariant c.loop-at-test.true (ne_eqb _ 10 c.if-byte-eq10.false) (ne_eqb _ 35 c.if-byte-eq-HASH.false)
+          (sym c.is_blank.ensures ∙ w.if-not-is_blank.false))
+    ]
 
 pub returns : goal.returns
-returns c =
-    let all = lines_end ends_line c.args.text.now _ _ c.loop-index.yielded c.loop-index.yielded_by
-    (record { rest = cc; done = cc; test = λ x b q k. search (rules, tests) }) (cc) _ _ c.next.ensures.steps c.in-None.is in
-    subst (HexIs _ _) (sym c.finished.ensures) (at_end _ _ _ _ _ c.loop-index.invariant (sym all))
+returns c = subst (HexIs _ _) (sym c.finished-2.ensures) (at_end _ _ _ _ _ _ _ c.loop-at.invariant c.loop-at-test.false)
