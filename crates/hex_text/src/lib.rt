@@ -32,9 +32,7 @@ pub fn read_hex(text: &[u8], bytes: &mut [u8]) -> Result<usize, HexError>
         high: None,
         last: 0,
     };
-    let mut line = 0;
-    let mut column = 0;
-    let mut at = 0;
+    let (mut line, mut column, mut at) = (0, 0, 0);
     // Kept: each byte is gone over once; `split` into lines goes over it to find the line's end and again for what it says.
     while at < text.len() {
         let byte = text[at];

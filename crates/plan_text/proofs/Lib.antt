@@ -1,4 +1,3 @@
 pub mod ByteLaws
 pub mod DigitLaws
 pub mod TableLaws
-pub mod SplitLaws
