@@ -50,27 +50,23 @@ pub fn read_side_info(
     // Kept: one test, as in the clauses; `first_chunk_mut` of each slice would lend all four before the header is read, and add four returns to each of four clauses.
     let short = (steps.len() < 64) | ((scfsi.len() < 64) | ((index.len() < 192) | (out.len() < 1)));
     let header = given.header(short)?;
-    match &side_info_reader::read_side_info(header, bytes) {
-        Ok(read) => {
-            put_read(read, steps, scfsi, index, out);
-            Ok(0)
-        }
-        Err(error) => {
-            put_read(&nothing(), steps, scfsi, index, out);
-            Ok(error.number())
-        }
-    }
+    Ok(match &side_info_reader::read_side_info(header, bytes) {
+        Ok(read) => put_read(0, read, steps, scfsi, index, out),
+        Err(error) => put_read(error.number(), &nothing(), steps, scfsi, index, out),
+    })
 }
 
-// What is read, into the slices. It is lent: each copy of a record is seen in the time of a small frame.
+// What is read, into the slices, beside the number. It is lent: each copy of a record is seen in the time of a small frame.
 fn put_read(
+    number: u32,
     read: &ReadSideInfo,
     steps: &mut [u32],
     scfsi: &mut [u8],
     index: &mut [u8],
     out: &mut [u32],
-)
+) -> u32
     requires { (64 ≤ length steps.old) × (64 ≤ length scfsi.old) × (192 ≤ length index.old) × (1 ≤ length out.old) }
+    ensures number { result ≡ number }
     ensures steps { steps.new ≡ written read.now.info.steps steps.old }
     ensures scfsi { scfsi.new ≡ written (codes_of read.now.info.scfsi) scfsi.old }
     ensures index { index.new ≡ written read.now.info.scalefactors index.old }
@@ -80,6 +76,7 @@ fn put_read(
     writing::put(&codes_of(&read.info.scfsi), scfsi);
     writing::put(&read.info.scalefactors, index);
     out[0] = read.bits_used;
+    number
 }
 
 // The codes of scfsi.
