@@ -54,8 +54,13 @@ fn are_codes(codes: &[u8; 64]) -> bool
 }
 
 // The scfsi of each code.
+// Kept: one by one; with `map` of the array the compiler took each of 64 apart.
 fn slots(codes: &[u8; 64]) -> [Scfsi; 64]
     ensures { result ≡ map coded codes.now }
 {
-    codes.map(|code| Scfsi::of_code(code))
+    let mut slots = [Scfsi::ThreePerGranule; 64];
+    for (slot, code) in codes.iter().enumerate() {
+        slots[slot] = Scfsi::of_code(*code);
+    }
+    slots
 }

@@ -23,3 +23,8 @@ read_in (Err e) = read (error_number e) nothing 0
 abbrev pub taken_by : {A : Type 0} → Result A ReadError → List Bool → Taken A
 taken_by (Ok v) rest = got v rest
 taken_by (Err e) rest = refused (error_number e)
+
+-- a result, with what was written in the place of nothing
+abbrev pub with_written : {A B : Type 0} → Result B ReadError → A → Result A ReadError
+with_written (Ok x) v = Ok v
+with_written (Err e) v = Err e

@@ -8,7 +8,7 @@ ghost use Rattle.side_info_reading.specs.Taken.{laid};
 ghost use Rattle.side_info_reading.specs.Reading.{in_slots, in_granules, allocation_taken, scfsis_taken, scalefactors_taken, index_taken, three_taken};
 ghost use Rattle.side_info_reading.specs.Read.{ReadIs};
 ghost use Rattle.side_info_reader.specs.declared.ReadError.TheVariants.{Header};
-ghost use Rattle.side_info_reader.specs.Errors.{error_number, taken_by, read_in};
+ghost use Rattle.side_info_reader.specs.Errors.{error_number, taken_by, with_written, read_in};
 ghost use Rattle.side_info_reader.specs.OnTheWay.{StepsAt, three_by, read_under};
 
 use active_slots::ActiveSlots;
@@ -87,32 +87,41 @@ fn put_steps(field: AllocationField, steps: u32, nb_steps: &mut [u32; 64])
 }
 
 // The allocation fields, field by field: the steps by slot.
-fn read_allocation(layout: Layout, reader: &mut BitReader) -> Result<[u32; 64], ReadError>
-    ensures taken { taken_by result reader.new.ahead ≡ allocation_taken layout reader.old.ahead }
+// Kept: here and below the array is lent; one that a `Result` hands back is copied, which was seen in the time of a frame.
+fn read_allocation(
+    layout: Layout,
+    reader: &mut BitReader,
+    nb_steps: &mut [u32; 64],
+) -> Result<(), ReadError>
+    ensures taken { taken_by (with_written result nb_steps.new) reader.new.ahead ≡ allocation_taken layout reader.old.ahead }
     ensures all { reader.new.all ≡ reader.old.all }
 {
     let table = layout.table;
-    let mut nb_steps = [0; 64];
+    *nb_steps = [0; 64];
     for f in 0..layout.fields() {
         let field = layout.field(f);
         let sb = field.subband;
         let place = reader.take(table.nbal(sb))?;
-        put_steps(field, steps_at(table, sb, place), &mut nb_steps);
+        put_steps(field, steps_at(table, sb, place), nb_steps);
     }
-    Ok(nb_steps)
+    Ok(())
 }
 
 // The scfsi of the active slots, two bits each; that of slots that send none is `ThreePerGranule`.
-fn read_scfsi(active: ActiveSlots, reader: &mut BitReader) -> Result<[Scfsi; 64], ReadError>
-    ensures taken { taken_by result reader.new.ahead ≡ scfsis_taken (listed active) reader.old.ahead }
+fn read_scfsi(
+    active: ActiveSlots,
+    reader: &mut BitReader,
+    scfsi: &mut [Scfsi; 64],
+) -> Result<(), ReadError>
+    ensures taken { taken_by (with_written result scfsi.new) reader.new.ahead ≡ scfsis_taken (listed active) reader.old.ahead }
     ensures all { reader.new.all ≡ reader.old.all }
 {
-    let mut scfsi = [Scfsi::ThreePerGranule; 64];
+    *scfsi = [Scfsi::ThreePerGranule; 64];
     for slot in active.as_slice() {
         let code = reader.take(2)?;
         scfsi[usize::from(*slot)] = Scfsi::of_code(code as u8);
     }
-    Ok(scfsi)
+    Ok(())
 }
 
 // A scalefactor index: six bits, of which 63 is refused.
@@ -167,17 +176,18 @@ fn read_scalefactors(
     active: ActiveSlots,
     scfsi: &[Scfsi; 64],
     reader: &mut BitReader,
-) -> Result<[u8; 192], ReadError>
-    ensures taken { taken_by result reader.new.ahead ≡ scalefactors_taken scfsi.now (listed active) reader.old.ahead }
+    scalefactor: &mut [u8; 192],
+) -> Result<(), ReadError>
+    ensures taken { taken_by (with_written result scalefactor.new) reader.new.ahead ≡ scalefactors_taken scfsi.now (listed active) reader.old.ahead }
     ensures all { reader.new.all ≡ reader.old.all }
 {
-    let mut scalefactor = [0; 192];
+    *scalefactor = [0; 192];
     for slot in active.as_slice() {
         let slot = usize::from(*slot);
         let indices = read_three(scfsi[slot], reader)?;
-        put_three(slot, indices, &mut scalefactor);
+        put_three(slot, indices, scalefactor);
     }
-    Ok(scalefactor)
+    Ok(())
 }
 
 // The three sections in the layout of an accepted header.
@@ -185,16 +195,17 @@ fn read_under(layout: Layout, bytes: &[u8]) -> Result<ReadSideInfo, ReadError>
     ensures { read_in result ≡ read_under layout bytes.now }
 {
     let mut reader = BitReader::new(bytes);
-    let steps = read_allocation(layout, &mut reader)?;
-    let active = active_slots::active_slots(layout, steps);
-    let scfsi = read_scfsi(active, &mut reader)?;
-    let scalefactors = read_scalefactors(active, &scfsi, &mut reader)?;
+    let mut info = SideInfo {
+        steps: [0; 64],
+        scfsi: [Scfsi::ThreePerGranule; 64],
+        scalefactors: [0; 192],
+    };
+    read_allocation(layout, &mut reader, &mut info.steps)?;
+    let active = active_slots::active_slots(layout, info.steps);
+    read_scfsi(active, &mut reader, &mut info.scfsi)?;
+    read_scalefactors(active, &info.scfsi, &mut reader, &mut info.scalefactors)?;
     Ok(ReadSideInfo {
-        info: SideInfo {
-            steps,
-            scfsi,
-            scalefactors,
-        },
+        info,
         bits_used: reader.bits_used(),
     })
 }

@@ -1,9 +1,13 @@
--- `c_side_info_read::codes_of` meets its contract: each scfsi's code.
-use Rattle.std.proofs.Common.{rules}
-use Rattle.audio_data.specs.declared.Scfsi.TheVariants.{ThreePerGranule}
-use Rattle.audio_data.specs.Scfsi.{code_of}
-use Rattle.c_answers.proofs.AnswerLaws.{mapped}
+-- `c_side_info_read::codes_of` meets its contract. The loop's invariant: the codes of the slots below `slot` are found.
+use Rattle.std.proofs.Common.{refl}
+use Rattle.c_side_info_read.proofs.CodeLaws.{none_coded, one_coded, all_coded}
 use Rattle.c_side_info_read.proofs.codes_of.Goals as goal
 
+pub loop-slot-init : goal.loop-slot-init
+loop-slot-init c = none_coded _ _ refl
+
+pub loop-slot-preserved : goal.loop-slot-preserved
+loop-slot-preserved c = one_coded _ _ _ _ c.loop-slot-test.true c.code.ensures.whole c.loop-slot.invariant
+
 pub returns : goal.returns
-returns c = mapped _ _ code_of (ThreePerGranule) 0 _ _ 64 (search rules) (λ p x y q k. search rules) c.map.ensures.items
+returns c = all_coded _ _ _ c.told-slots c.loop-slot-test.false c.loop-slot.invariant
