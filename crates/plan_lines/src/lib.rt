@@ -6,5 +6,5 @@ mod lines;
 mod refusal;
 
 pub use budget::budget_held;
-pub use lines::{Label, bits_line, demand_line, frame_line, free_line, labelled_bits};
+pub use lines::{Label, bits_line, demand_line, frame_line, free_line};
 pub use refusal::{numbered_line, refusal_line};

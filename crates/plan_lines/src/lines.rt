@@ -86,7 +86,7 @@ pub fn bits_line(label: Label, n: u64) -> Line
 }
 
 // A number of bits behind any label that is as short.
-pub fn labelled_bits(label: &[u8], n: u64) -> Line
+fn labelled_bits(label: &[u8], n: u64) -> Line
     requires { length label.now ≤ 8 }
     ensures { text_of result ≡ bits_line label.now n }
 {

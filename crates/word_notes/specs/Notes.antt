@@ -24,7 +24,7 @@ unknown_text words p =
 unfoldable pub twice_text : List ℕ → WordPlace → List ℕ
 twice_text words p = text "set twice, the second time by '" ++ excerpt words p ++ text "'."
 
--- of words that are not accepted
+-- what is said of words: nothing where they are accepted
 abbrev pub words_line : List ℕ → Result Words WordsError → List ℕ
 words_line words (Ok w) = []
 words_line words (Err (Unknown p)) = unknown_text words p
