@@ -42,7 +42,7 @@ pub fn run<R: Env + Input + Print>(rt: &R, outcome: &mut io::Result<()>) -> usiz
     ensures written { Written plan_of result }
     ensures kept { OnOk outcome.new (IsOk outcome.old) }
 {
-    word_io::run(&Planner, rt, outcome)
+    word_io::run_program(&Planner, rt, outcome)
 }
 
 // Writes the answer line by line, and answers how many there were, as far as 64 bits count.

@@ -43,7 +43,7 @@ pub fn run<R: Env + Input + Print>(rt: &R, outcome: &mut io::Result<()>) -> usiz
     ensures written { Written side_of result }
     ensures kept { OnOk outcome.new (IsOk outcome.old) }
 {
-    word_io::run(&SideShow, rt, outcome)
+    word_io::run_program(&SideShow, rt, outcome)
 }
 
 // Writes the answer line by line, and answers how many there were, as far as 64 bits count.

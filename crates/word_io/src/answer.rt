@@ -15,7 +15,7 @@ pub trait Answer {
     ghost page: { List ℕ → List ℕ → List (List ℕ) };
 
     // The line of a number, counted from 0, where there is one.
-    // Kept: words and input are read in `run`, after the program is made; a struct that lends both would need a lifetime in this trait.
+    // Kept: words and input are read in `run_program`, after the program is made; a struct that lends both would need a lifetime in this trait.
     fn line(&self, words: &[u8], input: &[u8], n: usize) -> Option<Line>
         ensures { LineAt (page words.now input.now) n result };
 }
@@ -38,9 +38,10 @@ pub trait Program: Answer {
             (page_text (take result (Self.page words.now input.now)))) };
 }
 
-// Reads, answers and writes, and answers how many lines the answer has. Where reading or writing fails it goes on, and `outcome` is the last error.
+// Reads, answers and writes by the program's own `write`, and answers how many lines the answer has. Where reading or writing fails it goes on, and `outcome`
+// is the last error.
 // Kept: `outcome` is lent and there is no `?`, since an error ends nothing here: reading and writing go on behind it.
-pub fn run<A: Program, R: Env + Input + Print>(
+pub fn run_program<A: Program, R: Env + Input + Print>(
     answer: &A,
     rt: &R,
     outcome: &mut io::Result<()>,
@@ -59,6 +60,43 @@ pub fn run<A: Program, R: Env + Input + Print>(
         &mut io::writer(rt),
         outcome,
     )
+}
+
+// Reads, answers and writes line by line, and answers how many lines the answer has. Where reading or writing fails it goes on, and `outcome` is the last error.
+// Kept: `outcome` is lent and there is no `?`, as in `run_program`.
+pub fn run<A: Answer, R: Env + Input + Print>(
+    answer: &A,
+    rt: &R,
+    outcome: &mut io::Result<()>,
+) -> usize
+    ensures written { Written A.page result }
+    ensures kept { OnOk outcome.new (IsOk outcome.old) }
+{
+    run_program(&LineByLine(answer), rt, outcome)
+}
+
+// An answer as a program whose own writing is `write_answer`.
+#[derive(Drop)]
+struct LineByLine<'a, A: Answer>(&'a A);
+
+impl<A: Answer> Answer for LineByLine<'_, A> {
+    ghost page = { A.page };
+
+    fn line(&self, words: &[u8], input: &[u8], n: usize) -> Option<Line> {
+        self.0.line(words, input, n)
+    }
+}
+
+impl<A: Answer> Program for LineByLine<'_, A> {
+    fn write<W: Write>(
+        &self,
+        words: &[u8],
+        input: &[u8],
+        out: &mut W,
+        outcome: &mut io::Result<()>,
+    ) -> usize {
+        write_answer(self, words, input, out, outcome)
+    }
 }
 
 // Writes the answer line by line, and answers how many there were. A proved loop has to end: lines are counted as far as 64 bits count.

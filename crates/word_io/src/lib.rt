@@ -2,12 +2,14 @@
 #![tactic(auto)]
 
 mod answer;
+#[cfg(test)]
+mod tests;
 
 ghost use Rattle.std.specs.Prelude.{◌<◌, ◌≤◌, length, take, IsOk, OnOk};
 ghost use Rattle.std.specs.Io.KnownBytes.{Consumes, IsAtEnd};
 ghost use Rattle.word_io.specs.Words.{WordEnded, WordRead, WordsRead, InputRead};
 
-pub use answer::{Answer, Program, run, write_answer};
+pub use answer::{Answer, Program, run, run_program, write_answer};
 use std::env::{Env, FillError};
 use std::io;
 use std::io::Read;
